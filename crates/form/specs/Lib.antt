@@ -1,0 +1,10 @@
+pub mod Faults
+pub mod Records
+pub mod Nullable
+pub mod Heads
+pub mod Nesting
+pub mod Form
+pub mod Bytes
+pub mod Tables
+pub mod Verdict
+pub mod Laws
