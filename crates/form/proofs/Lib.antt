@@ -1,0 +1,11 @@
+pub mod Filled
+pub mod Settled
+pub mod Rounds
+pub mod Nullable
+pub mod Heads
+pub mod Nesting
+pub mod Lowest
+pub mod Yields
+pub mod Read
+pub mod Written
+pub mod Meaning

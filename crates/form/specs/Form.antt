@@ -1,6 +1,6 @@
 -- Contents: what a grammar file says: its text, its records and the bodies of its rules.
 -- Fields: the fields of a record that are no parts are in range.
--- Form: contents have the form of a grammar.
+-- Laid: contents are in order section by section. Form: they have the form of a grammar.
 use Prim.Native.Nat.{ℕ, _+_, _<_, _≤_}
 use mathlib.Core.List.{List}
 use lib.ListN.{length, getD}
@@ -32,7 +32,8 @@ Fields s m (Link a) = Unit {0}
 Fields s m (Fold a) = Unit {0}
 Fields s m (Tag a) = 1 ≤ a
 
-pub record Form (c : Contents) : Type 0 where
+-- the counts are in their limits, and records and rules stand as they should
+pub record Laid (c : Contents) : Type 0 where
   pub text-most : length (c .text) ≤ 1024
   pub exprs-least : 1 ≤ length (c .exprs)
   pub exprs-most : length (c .exprs) ≤ 512
@@ -41,6 +42,10 @@ pub record Form (c : Contents) : Type 0 where
   pub fields : (k : ℕ) → k < length (c .exprs) → Fields (length (c .text)) (length (c .rules)) (at (c .exprs) k)
   pub ordered : Ordered (c .exprs)
   pub bodies : (r : ℕ) → r < length (c .rules) → getD (c .rules) r 0 < length (c .exprs)
+
+-- and no record is nested too deep, no repeat has a part that may take nothing, and no rule is left recursive
+pub record Form (c : Contents) : Type 0 where
+  pub laid : Laid c
   pub shallow : (k : ℕ) → k < length (c .exprs) → TooDeep (c .exprs) k → ⊥
   pub repeats-take : (k : ℕ) → k < length (c .exprs) → NullablePart (c .exprs) (c .rules) k → ⊥
   pub no-left-recursion : (r : ℕ) → r < length (c .rules) → LeftRecursive (c .exprs) (c .rules) r → ⊥

@@ -7,4 +7,4 @@ pub mod Form
 pub mod Bytes
 pub mod Tables
 pub mod Verdict
-pub mod Laws
+pub mod Meaning

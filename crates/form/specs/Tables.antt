@@ -35,6 +35,10 @@ abbrev pub turns : {A : Type 0} → (A → A) → ℕ → A → A
 turns f zero v = v
 turns f (suc k) v = f (turns f k v)
 
+-- a table over the records: each entry comes from the record and the entries of later ones, which before are all d
+abbrev pub recordTable : {A : Type 0} → A → (List A → Expr → A) → List Expr → List A
+recordTable d by es = filled (λ e t. by t (at es e)) 0 (length es) (replicate (length es) d)
+
 -- a test of one record, by the rules that are marked (v) and the later records that are (t)
 abbrev pub Test : Type 0
 Test = List Bool → List Bool → Expr → Bool
@@ -72,7 +76,7 @@ hasHead m v t (Tag a) = false
 
 -- the records for which the test holds
 abbrev pub tested : Test → List Expr → List Bool → List Bool
-tested by es v = filled (λ e t. by v t (at es e)) 0 (length es) (blank (length es))
+tested by es v = recordTable false (by v) es
 
 -- the rules of v, and those whose body is marked
 abbrev pub joined : List Expr → List ℕ → List Bool → List Bool → List Bool
@@ -119,7 +123,7 @@ deepest t [] = 0
 deepest t (a ∷ rest) = max (getD t a 0) (deepest t rest)
 
 abbrev pub nestings : List Expr → List ℕ
-nestings es = filled (λ e t. deepest t (parts (at es e)) + 1) 0 (length es) (replicate (length es) 0)
+nestings es = recordTable 0 (λ t x. deepest t (parts x) + 1) es
 
 -- among the n numbers from k on
 abbrev pub firstFrom : (ℕ → Bool) → ℕ → ℕ → Option ℕ
