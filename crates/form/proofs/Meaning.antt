@@ -43,7 +43,7 @@ found-none : (P : ℕ → Type 0) (n : ℕ) (o : Option ℕ) → o ≡ None → 
 found-none P n None e f j l p = f j (omega arith) (omega arith) p
 found-none P n (Some i) e f j l p = let z : _≡_ {A = ℕ} 0 1 = cc in omega arith
 
-form-read : (c : Contents) → Laid c → (t : Unit {0}) → lawful (c .exprs) (c .rules) ≡ Ok t → Form c
+pub form-read : (c : Contents) → Laid c → (t : Unit {0}) → lawful (c .exprs) (c .rules) ≡ Ok t → Form c
 form-read c laid t q =
     let es = c .exprs in
     let rs = c .rules in
@@ -56,11 +56,11 @@ form-read c laid t q =
       no-left-recursion = found-none (LeftRecursive es rs) (length rs) _ (unless-none _ _ _ t (v .2)) (recursion-found es (laid .ordered) rs);
     }
 
-pub record ContentsRead (bs : List ℕ) (l : Layout) (c : Contents) : Type 0 where
+record ContentsRead (bs : List ℕ) (l : Layout) (c : Contents) : Type 0 where
   pub is : bs ≡ encode c ++ l .rules .after
   pub form : Form c
 
-pub contents-read : (bs : List ℕ) → AllBytes bs → (l : Layout) → layout bs ≡ Ok l → (c : Contents) → contents l ≡ Ok c → ContentsRead bs l c
+contents-read : (bs : List ℕ) → AllBytes bs → (l : Layout) → layout bs ≡ Ok l → (c : Contents) → contents l ≡ Ok c → ContentsRead bs l c
 contents-read bs h l ql c q =
     let u = then-ok (each (recordAt (counts l)) 5 (l .exprs .count) 0 (l .exprs .bytes)) _ c q in
     let v = then-ok (each (bodyAt (l .exprs .count)) 2 (l .rules .count) 0 (l .rules .bytes)) _ c (u .2) in

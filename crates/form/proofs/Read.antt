@@ -5,7 +5,7 @@ use mathlib.Core.List.{List, [], _∷_, _++_}
 use mathlib.Core.Bool.{Bool, true, false, cond, _&&_, _||_}
 use native.Mathlib.Omega.{arith}
 use lib.Dec.{leb, ltb, eqb}
-use lib.ListN.{length, getD, take, drop, length-drop}
+use lib.ListN.{length, getD, take, drop, length-append, length-drop}
 use Rattle.std.specs.declared.result.Result.{Result}
 use Rattle.std.specs.declared.result.Result.the-variants.{Ok, Err}
 use Rattle.std.proofs.shelf.Lists.{length-take-le, take-append-drop, append-assoc, nil-from-length}
@@ -87,7 +87,7 @@ pub record LayoutRead (bs : List ℕ) (l : Layout) : Type 0 where
   pub exprs : PieceRead 1 512 5 (l .text .after) (l .exprs)
   pub rules : PieceRead 1 64 2 (l .exprs .after) (l .rules)
 
-pub layout-read : (bs : List ℕ) → AllBytes bs → Yields (LayoutRead bs) (layout bs)
+layout-read : (bs : List ℕ) → AllBytes bs → Yields (LayoutRead bs) (layout bs)
 layout-read bs h l q =
     let u = then-ok (piece section.Text 0 1024 1 bs) _ l q in
     let v = then-ok (piece section.Expressions 1 512 5 (u .0 .after)) _ l (u .2) in
@@ -96,6 +96,19 @@ layout-read bs h l q =
     let b = piece-read section.Expressions 1 512 5 (u .0 .after) (a .after-are) (v .0) (v .1) in
     let c = piece-read section.Rules 1 64 2 (v .0 .after) (b .after-are) (w .0) (w .1) in
     of-ok (LayoutRead bs) (record { text = u .0; exprs = v .0; rules = w .0 }) (record { text = a; exprs = b; rules = c }) l (w .2)
+
+pub rest-short : (bs : List ℕ) → AllBytes bs → Yields (λ l. length (l .rules .after) ≤ length bs) (layout bs)
+rest-short bs h l q =
+    let s = layout-read bs h l q in
+    omega (
+      arith,
+      ap length (s .text .is),
+      length-append (l .text .bytes) (l .text .after),
+      ap length (s .exprs .is),
+      length-append (l .exprs .bytes) (l .exprs .after),
+      ap length (s .rules .is),
+      length-append (l .rules .bytes) (l .rules .after),
+    )
 
 -- A record.
 

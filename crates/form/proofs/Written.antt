@@ -28,7 +28,7 @@ use Rattle.form.specs.Nesting.{TooDeep}
 use Rattle.form.specs.Form.{Contents, Fields, Laid, Form}
 use Rattle.form.specs.Bytes.{wide, written, encode}
 use Rattle.form.specs.Bytes as bytes
-use Rattle.form.specs.Verdict.{Piece, piece, Layout, layout, allow, isPart, recordAt, bodyAt, each, counts, unless, lawful, firstTooDeep, firstNullableRepeat, firstLeftRecursive, contents}
+use Rattle.form.specs.Verdict.{Piece, wideAt, piece, Layout, layout, allow, isPart, recordAt, bodyAt, each, counts, unless, lawful, firstTooDeep, firstNullableRepeat, firstLeftRecursive, contents}
 use Rattle.form.specs.Meaning.{Found}
 use Rattle.form.proofs.Yields.{then-is}
 use Rattle.form.proofs.Lowest.{deep-found, repeats-found, recursion-found}
@@ -41,13 +41,21 @@ wide-read n = omega arith
 abbrev cut : ℕ → List ℕ → List ℕ → Piece
 cut n body rest = record { count = n; bytes = body; after = rest }
 
+-- a section whose count is there and in its limits, and whose bytes are there
+pub piece-is : (s : Section) (low high size n : ℕ) (bs body rest : List ℕ) → 2 ≤ length bs → n ≡ wideAt bs 0 → low ≤ n → n ≤ high
+    → n * size ≤ length (drop 2 bs) → body ≡ take (n * size) (drop 2 bs) → rest ≡ drop (n * size) (drop 2 bs)
+    → Ok (cut n body rest) ≡ piece s low high size bs
+piece-is s low high size n bs body rest two count lo hi present p q =
+    let t : ltb (length bs) 2 ≡ false = le-ltb (length bs) 2 two in
+    let u : (ltb n low || ltb high n) ≡ false = or-from (ltb n low) (ltb high n) (le-ltb n low lo) (le-ltb high n hi) in
+    let v : ltb (length (drop 2 bs)) (n * size) ≡ false = le-ltb (length (drop 2 bs)) (n * size) present in
+    rw (p, q, t, ← count, u, v)
+
 piece-written : (s : Section) (low high size n : ℕ) (body rest : List ℕ) → length body ≡ n * size → low ≤ n → n ≤ high
     → piece s low high size (wide n (body ++ rest)) ≡ Ok (cut n body rest)
 piece-written s low high size n body rest l lo hi =
-    let counted : ltb (length (wide n (body ++ rest))) 2 ≡ false = le-ltb (length (wide n (body ++ rest))) 2 (omega arith) in
-    let in-limits : (ltb n low || ltb high n) ≡ false = or-from (ltb n low) (ltb high n) (le-ltb n low lo) (le-ltb high n hi) in
-    let present : ltb (length (body ++ rest)) (n * size) ≡ false = le-ltb (length (body ++ rest)) (n * size) (omega (arith, length-append body rest)) in
-    rw (counted, wide-read n, in-limits, present, take-at body rest (n * size) l, drop-at body rest (n * size) l)
+    sym (piece-is s low high size n (wide n (body ++ rest)) body rest (omega arith) (sym (wide-read n)) lo hi
+    (omega (arith, length-append body rest)) (sym (take-at body rest (n * size) l)) (sym (drop-at body rest (n * size) l)))
 
 -- A record.
 

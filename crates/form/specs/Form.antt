@@ -16,6 +16,9 @@ pub record Contents : Type 0 where
   pub exprs : List Expr
   pub rules : List ℕ
 
+abbrev pub holding : List ℕ → List Expr → List ℕ → Contents
+holding t es rs = record { text = t; exprs = es; rules = rs }
+
 -- with s bytes of text and m rules; that a field has at most 16 bits lies in the format
 abbrev pub Fields : ℕ → ℕ → Expr → Type 0
 Fields s m Empty = Unit {0}

@@ -1,0 +1,7 @@
+-- A turn fills one more entry.
+use borrow.Author.Needs.{needs}
+use Rattle.analysis.proofs.Turns.{filled-turn}
+use Rattle.analysis.proofs.marks.join.Needs as need
+
+pub loop-q-again : need.loop-q-again
+loop-q-again c = search (needs, filled-turn)
