@@ -1,3 +1,4 @@
 pub mod Turns
 pub mod Settled
 pub mod Most
+pub mod Tells

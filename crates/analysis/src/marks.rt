@@ -8,6 +8,7 @@ ghost use Rattle.form.specs.Tables.{marked, only, takesNothing, hasHead, tested
 ghost use Rattle.form.specs.Tables.{nullables as nullableTable, repeatsMarked, leftRecursive};
 ghost use Rattle.form.specs.Verdict.{firstNullableRepeat, firstLeftRecursive};
 ghost use Rattle.analysis.specs.Entries.{asked, settledRecords, answers, joins, isHead};
+ghost use Rattle.analysis.specs.Tells.{MarksNullable, HeadMarks, MarksHeads};
 use crate::records::body_of;
 use crate::records::record_at;
 use form::expr::Expr;
@@ -141,8 +142,8 @@ fn mark_only(marks: &mut [bool], rule: usize)
     marks[rule] = true;
 }
 
-// Which records may take nothing.
-pub fn nullables(heap: Global, exprs: &[Expr], rules: &[u16]) -> Result<Vec<bool>, AllocError>
+// The table of the records that may take nothing.
+fn nullable_table(heap: Global, exprs: &[Expr], rules: &[u16]) -> Result<Vec<bool>, AllocError>
     ensures { λ r. ⌜ made r (λ v. vec-items v ≡ nullableTable (now (exprs .entry)) (now (rules .entry))) ⌝ }
 {
     let mut marks = vec![in heap; false; rules.len()]?;
@@ -171,21 +172,21 @@ fn is_head(
     is_marked_at(table, number)
 }
 
-// Which rules are heads of a record; a number past the records has none.
-pub fn heads(
+// The marks of the rules that are heads of a record.
+fn head_marks(
     heap: Global,
     exprs: &[Expr],
     rules: &[u16],
-    record: usize,
+    number: usize,
 ) -> Result<Vec<bool>, AllocError>
-    ensures { λ r. ⌜ made r (λ v. (length (vec-items v) ≡ length (now (rules .entry))) × ((q : ℕ) → q < length (now (rules .entry)) → marked (vec-items v) q ≡ isHead (now (exprs .entry)) (now (rules .entry)) «record» q)) ⌝ }
+    ensures { λ r. ⌜ made r (λ v. HeadMarks (now (exprs .entry)) (now (rules .entry)) number (vec-items v)) ⌝ }
 {
-    let nullable = nullables(heap, exprs, rules)?;
+    let nullable = nullable_table(heap, exprs, rules)?;
     let mut marks = vec![in heap; false; rules.len()]?;
     let mut table = vec![in heap; false; exprs.len()]?;
     let mut found = Vec::new(heap);
     for q in 0..rules.len() {
-        let head = is_head(exprs, rules, &nullable, q, record, &mut marks, &mut table);
+        let head = is_head(exprs, rules, &nullable, q, number, &mut marks, &mut table);
         found.push(head)?;
     }
     Ok(found)
@@ -210,7 +211,7 @@ pub fn first_nullable_repeat(
 ) -> Result<Option<usize>, AllocError>
     ensures { λ r. ⌜ made r (λ o. o ≡ firstNullableRepeat (now (exprs .entry)) (now (rules .entry))) ⌝ }
 {
-    let nullable = nullables(heap, exprs, rules)?;
+    let nullable = nullable_table(heap, exprs, rules)?;
     for e in 0..exprs.len() {
         if repeats_marked(exprs, &nullable, e) {
             return Ok(Some(e));
@@ -246,7 +247,7 @@ pub fn first_left_recursive(
 ) -> Result<Option<usize>, AllocError>
     ensures { λ r. ⌜ made r (λ o. o ≡ firstLeftRecursive (now (exprs .entry)) (now (rules .entry))) ⌝ }
 {
-    let nullable = nullables(heap, exprs, rules)?;
+    let nullable = nullable_table(heap, exprs, rules)?;
     let mut marks = vec![in heap; false; rules.len()]?;
     let mut table = vec![in heap; false; exprs.len()]?;
     for q in 0..rules.len() {
@@ -255,4 +256,26 @@ pub fn first_left_recursive(
         }
     }
     Ok(None)
+}
+
+// By record number, which records may take nothing. In records whose parts stand behind them, as a grammar's do, the marks
+// say exactly which are nullable.
+pub fn nullables(heap: Global, exprs: &[Expr], rules: &[u16]) -> Result<Vec<bool>, AllocError>
+    ensures is { λ r. ⌜ made r (λ v. vec-items v ≡ nullableTable (now (exprs .entry)) (now (rules .entry))) ⌝ }
+    ensures tells { λ r. ⌜ made r (λ v. MarksNullable (now (exprs .entry)) (now (rules .entry)) (vec-items v)) ⌝ }
+{
+    nullable_table(heap, exprs, rules)
+}
+
+// By rule number, which rules are heads of a record; a number past the records has none.
+pub fn heads(
+    heap: Global,
+    exprs: &[Expr],
+    rules: &[u16],
+    number: usize,
+) -> Result<Vec<bool>, AllocError>
+    ensures is { λ r. ⌜ made r (λ v. HeadMarks (now (exprs .entry)) (now (rules .entry)) number (vec-items v)) ⌝ }
+    ensures tells { λ r. ⌜ made r (λ v. MarksHeads (now (exprs .entry)) (now (rules .entry)) number (vec-items v)) ⌝ }
+{
+    head_marks(heap, exprs, rules, number)
 }

@@ -8,6 +8,7 @@ ghost use Rattle.form.specs.Records.{at, parts};
 ghost use Rattle.form.specs.Tables.{deepest, filled, nestings as nestingTable};
 ghost use Rattle.form.specs.Verdict.{firstTooDeep};
 ghost use Rattle.analysis.specs.Entries.{nesting};
+ghost use Rattle.analysis.specs.Tells.{TellsNesting};
 use crate::records::record_at;
 use form::expr::Expr;
 use std::alloc::AllocError;
@@ -57,8 +58,8 @@ fn nest(exprs: &[Expr], number: usize, table: &mut [usize])
     }
 }
 
-// How deep each record is nested: one more than its deepest part.
-pub fn nestings(heap: Global, exprs: &[Expr]) -> Result<Vec<usize>, AllocError>
+// The table of nestings.
+fn nesting_table(heap: Global, exprs: &[Expr]) -> Result<Vec<usize>, AllocError>
     ensures { λ r. ⌜ made r (λ v. vec-items v ≡ nestingTable (now (exprs .entry))) ⌝ }
 {
     let mut table = vec![in heap; 0; exprs.len()]?;
@@ -77,11 +78,19 @@ fn is_too_deep(table: &[usize], number: usize) -> bool
 pub fn first_too_deep(heap: Global, exprs: &[Expr]) -> Result<Option<usize>, AllocError>
     ensures { λ r. ⌜ made r (λ o. o ≡ firstTooDeep (now (exprs .entry))) ⌝ }
 {
-    let table = nestings(heap, exprs)?;
+    let table = nesting_table(heap, exprs)?;
     for e in 0..exprs.len() {
         if is_too_deep(&table, e) {
             return Ok(Some(e));
         }
     }
     Ok(None)
+}
+
+// By record number, how deep each record is nested: one more than its deepest part.
+pub fn nestings(heap: Global, exprs: &[Expr]) -> Result<Vec<usize>, AllocError>
+    ensures is { λ r. ⌜ made r (λ v. vec-items v ≡ nestingTable (now (exprs .entry))) ⌝ }
+    ensures tells { λ r. ⌜ made r (λ v. TellsNesting (now (exprs .entry)) (vec-items v)) ⌝ }
+{
+    nesting_table(heap, exprs)
 }

@@ -61,10 +61,12 @@ module _ {A : Type 0} (d : A) (by : List A → Expr → A) where
   Local = (t u : List A) (k n : ℕ) (x : Expr) → Later k n (parts x) → ((j : ℕ) → k < j → getD t j d ≡ getD u j d) → by t x ≡ by u x
 
   pub table-length : (es : List Expr) → length (recordTable d by es) ≡ length es
+  unfolding recordTable
   table-length es = filled-length d (λ e t. by t (at es e)) 0 (length es) (replicate (length es) d) ∙ length-replicate (length es) d
 
   -- each entry is what its record and the finished table give
   pub table-at : Local → (es : List Expr) → Ordered es → (e : ℕ) → e < length es → getD (recordTable d by es) e d ≡ by (recordTable d by es) (at es e)
+  unfolding recordTable
   table-at local es ord e l =
       let s = filled-at d (λ k t. by t (at es k)) 0 (length es) (replicate (length es) d) e (omega arith) (omega arith) (simp length-replicate (omega arith)) in
       s .1 ∙ local (s .0) (recordTable d by es) e (length es) (at es e) (ord e l) (s .2)

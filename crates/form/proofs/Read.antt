@@ -36,6 +36,14 @@ bytes-drop zero s h = h
 bytes-drop (suc n) [] h = tt
 bytes-drop (suc n) (x ∷ s) h = bytes-drop n s (h .1)
 
+byte-at : (s : List ℕ) → AllBytes s → (i : ℕ) → getD s i 0 < 256
+byte-at [] h i = omega arith
+byte-at (x ∷ s) h zero = h .0
+byte-at (x ∷ s) h (suc i) = byte-at s (h .1) i
+
+wide-fits : (s : List ℕ) → AllBytes s → (i : ℕ) → wideAt s i ≤ 65535
+wide-fits s h i = omega (arith, byte-at s h i, byte-at s h (i + 1))
+
 wide-is : (h l : ℕ) (s : List ℕ) → l < 256 → wide (h * 256 + l) s ≡ h ∷ l ∷ s
 wide-is h l s b =
     let high : (h * 256 + l) / 256 ≡ h = omega arith in
@@ -112,7 +120,7 @@ rest-short bs h l q =
 
 -- A record.
 
-module _ (c : Counts) (n kind a b : ℕ) where
+module _ (c : Counts) (n kind a b : ℕ) (fits : a ≤ 65535) where
   pub record RecordRead (x : Expr) : Type 0 where
     pub in-range : Fields (c .text) (c .rules) x
     pub later : Later n (c .exprs) (parts x)
@@ -175,7 +183,7 @@ module _ (c : Counts) (n kind a b : ℕ) where
       of-cond R (eqb kind 11) _ _ (λ q. one-part 11 (Fold a) q (λ l w. record { in-range = tt; later = l; is = w })) (λ _.
       of-cond R (eqb kind 12) _ _ (λ q. allowed (leb 1 a && eqb b 0) FieldOutOfRange (Tag a) (λ t.
       let p = and-parts (leb 1 a) (eqb b 0) t in
-      record { in-range = leb-true 1 a (p .0); later = tt; is = one-is 12 q (p .1) })) (λ _.
+      record { in-range = (leb-true 1 a (p .0), fits); later = tt; is = one-is 12 q (p .1) })) (λ _.
       of-err R (fault UnknownKind section.Expressions n))))))))))))))
 
 -- Items one by one: each has a property at its number, and they are the bytes.
@@ -222,7 +230,7 @@ records-read : (c : Counts) (m : ℕ) (bs : List ℕ) → length bs ≡ m * 5 �
 records-read c m bs =
     items-read (recordAt c) 5 bytes.expression (Stands c) (Range 0 0) (λ k. omega arith)
     (λ n s h l x q.
-    let r = record-read c n (getD s 0 0) (wideAt s 1) (wideAt s 3) x q in
+    let r = record-read c n (getD s 0 0) (wideAt s 1) (wideAt s 3) (wide-fits s h 1) x q in
     ((r .in-range, r .later), sym (fields-front s l h) ∙ r .is (drop 5 s)))
     m 0 bs
 

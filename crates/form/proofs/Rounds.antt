@@ -11,7 +11,7 @@ use Rattle.std.proofs.shelf.Lists.{getD-past}
 use Rattle.form.specs.declared.expr.Expr.{Expr}
 use Rattle.form.specs.declared.expr.Expr.the-variants.{Range}
 use Rattle.form.specs.Records.{at, body, Ordered}
-use Rattle.form.specs.Tables.{marked, blank, filled, turns, Test, tested, round, settled}
+use Rattle.form.specs.Tables.{marked, blank, filled, turns, Test, tested, round, settled, recordTable, joined}
 use Rattle.form.proofs.Filled.{filled-length, filled-at, filled-all, Local, table-length, table-at}
 use Rattle.form.proofs.Settled.{turns-keep, Grown, at-rest}
 
@@ -24,6 +24,7 @@ module _ (es : List Expr) (by : Test) (v : List Bool) where
   -- what a record has that the test marks, if later marked records have it
   pub tested-sound : (P : ℕ → Type 0) → ((e : ℕ) (t : List Bool) → ((j : ℕ) → marked t j ≡ true → P j) → by v t (at es e) ≡ true → P e)
       → (e : ℕ) → marked (tested by es v) e ≡ true → P e
+  unfolding recordTable
   tested-sound P F =
       filled-all false (λ e t. by v t (at es e)) (λ j b. b ≡ true → P j) F
       0 (length es) (blank (length es)) (λ j m. absurd (blank-unmarked (length es) j m))
@@ -43,6 +44,7 @@ module _ (es : List Expr) (rs : List ℕ) (by : Test) where
   rule-test v q w = marked w q || marked (tested by es v) (body es rs q)
 
   round-grows : (v : List Bool) → Grown v (round by es rs v)
+  unfolding joined
   round-grows v = record {
     long = filled-length false (rule-test v) 0 (length rs) v;
     more = filled-all false (rule-test v) (λ j b. marked v j ≡ true → b ≡ true)
@@ -50,15 +52,18 @@ module _ (es : List Expr) (rs : List ℕ) (by : Test) where
   }
 
   settled-length : (v : List Bool) → length v ≡ length rs → length (settled by es rs v) ≡ length rs
+  unfolding settled
   settled-length v l = turns-keep (round by es rs) (λ w. length w ≡ length rs) (λ w e. round-grows w .long ∙ e) (length rs) v l
 
   pub settled-more : (v : List Bool) (j : ℕ) → marked v j ≡ true → marked (settled by es rs v) j ≡ true
+  unfolding settled
   settled-more v j m = turns-keep (round by es rs) (λ w. marked w j ≡ true) (λ w e. round-grows w .more j e) (length rs) v m
 
   -- what each marked rule has: it holds at the start, and a round keeps it
   pub settled-sound : (P : ℕ → Type 0)
       → ((v : List Bool) → ((q : ℕ) → marked v q ≡ true → P q) → (q : ℕ) → marked (tested by es v) (body es rs q) ≡ true → P q)
       → (v : List Bool) → ((q : ℕ) → marked v q ≡ true → P q) → (q : ℕ) → marked (settled by es rs v) q ≡ true → P q
+  unfolding settled joined
   settled-sound P F =
       turns-keep (round by es rs) (λ w. (q : ℕ) → marked w q ≡ true → P q)
       (λ v h. filled-all false (rule-test v) (λ j b. b ≡ true → P j)
@@ -69,6 +74,7 @@ module _ (es : List Expr) (rs : List ℕ) (by : Test) where
   -- in the end a rule is marked if its body is
   pub settled-closed : (v : List Bool) → length v ≡ length rs
       → (q : ℕ) → marked (tested by es (settled by es rs v)) (body es rs q) ≡ true → marked (settled by es rs v) q ≡ true
+  unfolding settled joined
   settled-closed v l q m =
       let w : List Bool = settled by es rs v in
       elim (cases-lt q (length rs)) [

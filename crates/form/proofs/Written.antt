@@ -91,7 +91,7 @@ module _ (c : Counts) (n : ℕ) (s : List ℕ) where
   record-written (Node a) f l = rw (wide-read a) (one-part a (Node a) l)
   record-written (Link a) f l = rw (wide-read a) (one-part a (Link a) l)
   record-written (Fold a) f l = rw (wide-read a) (one-part a (Fold a) l)
-  record-written (Tag a) f l = rw (wide-read a) (allowed _ FieldOutOfRange (Tag a) (and-from (leb 1 a) true (le-leb 1 a f) refl))
+  record-written (Tag a) f l = rw (wide-read a) (allowed _ FieldOutOfRange (Tag a) (and-from (leb 1 a) true (le-leb 1 a (f .0)) refl))
 
   -- a record takes five bytes
   record-long : (x : Expr) → (drop 5 (bytes.expression x s) ≡ s) × (length (bytes.expression x s) ≡ 5 + length s)

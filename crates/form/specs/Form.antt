@@ -19,7 +19,7 @@ pub record Contents : Type 0 where
 abbrev pub holding : List ℕ → List Expr → List ℕ → Contents
 holding t es rs = record { text = t; exprs = es; rules = rs }
 
--- with s bytes of text and m rules; that a field has at most 16 bits lies in the format
+-- with s bytes of text and m rules
 abbrev pub Fields : ℕ → ℕ → Expr → Type 0
 Fields s m Empty = Unit {0}
 Fields s m (Text start len) = (1 ≤ len) × (len ≤ 255) × (start + len ≤ s)
@@ -33,7 +33,7 @@ Fields s m (Absent a) = Unit {0}
 Fields s m (Node a) = Unit {0}
 Fields s m (Link a) = Unit {0}
 Fields s m (Fold a) = Unit {0}
-Fields s m (Tag a) = 1 ≤ a
+Fields s m (Tag a) = (1 ≤ a) × (a ≤ 65535)
 
 -- the counts are in their limits, and records and rules stand as they should
 pub record Laid (c : Contents) : Type 0 where

@@ -36,7 +36,7 @@ turns f zero v = v
 turns f (suc k) v = f (turns f k v)
 
 -- a table over the records: each entry comes from the record and the entries of later ones, which before are all d
-abbrev pub recordTable : {A : Type 0} → A → (List A → Expr → A) → List Expr → List A
+unfoldable pub recordTable : {A : Type 0} → A → (List A → Expr → A) → List Expr → List A
 recordTable d by es = filled (λ e t. by t (at es e)) 0 (length es) (replicate (length es) d)
 
 -- a test of one record, by the rules that are marked (v) and the later records that are (t)
@@ -79,14 +79,14 @@ abbrev pub tested : Test → List Expr → List Bool → List Bool
 tested by es v = recordTable false (by v) es
 
 -- the rules of v, and those whose body is marked
-abbrev pub joined : List Expr → List ℕ → List Bool → List Bool → List Bool
+unfoldable pub joined : List Expr → List ℕ → List Bool → List Bool → List Bool
 joined es rs t v = filled (λ q w. marked w q || marked t (body es rs q)) 0 (length rs) v
 
 abbrev pub round : Test → List Expr → List ℕ → List Bool → List Bool
 round by es rs v = joined es rs (tested by es v) v
 
 -- as many rounds as there are rules: then a further one adds none
-abbrev pub settled : Test → List Expr → List ℕ → List Bool → List Bool
+unfoldable pub settled : Test → List Expr → List ℕ → List Bool → List Bool
 settled by es rs v = turns (round by es rs) (length rs) v
 
 abbrev pub nullables : List Expr → List ℕ → List Bool

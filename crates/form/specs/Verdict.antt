@@ -74,12 +74,18 @@ onePart c n a b e = cond (eqb b 0) (allow (isPart c n a) PartNotAllowed n e) (Er
 abbrev pub twoParts : Counts → ℕ → ℕ → ℕ → Expr → Result Expr Fault
 twoParts c n a b e = allow (isPart c n a && isPart c n b) PartNotAllowed n e
 
+abbrev pub textRecord : Counts → ℕ → ℕ → ℕ → Result Expr Fault
+textRecord c n start len = allow (leb 1 len && (leb len 255 && leb (start + len) (c .text))) FieldOutOfRange n (Text start len)
+
+abbrev pub rangeRecord : ℕ → ℕ → ℕ → Result Expr Fault
+rangeRecord n low high = allow (leb low high && leb high 255) FieldOutOfRange n (Range low high)
+
 -- record n, of a kind, with the fields a and b
 abbrev pub expression : Counts → ℕ → ℕ → ℕ → ℕ → Result Expr Fault
 expression c n kind a b =
     cond (eqb kind 0) (allow (eqb a 0 && eqb b 0) FieldOutOfRange n Empty)
-    (cond (eqb kind 1) (allow (leb 1 b && (leb b 255 && leb (a + b) (c .text))) FieldOutOfRange n (Text a b))
-    (cond (eqb kind 2) (allow (leb a b && leb b 255) FieldOutOfRange n (Range a b))
+    (cond (eqb kind 1) (textRecord c n a b)
+    (cond (eqb kind 2) (rangeRecord n a b)
     (cond (eqb kind 3) (allow (ltb a (c .rules) && eqb b 0) FieldOutOfRange n (Rule a))
     (cond (eqb kind 4) (twoParts c n a b (Sequence a b))
     (cond (eqb kind 5) (twoParts c n a b (Choice a b))

@@ -1,5 +1,5 @@
 ghost use mathlib.Core.Path.{_≡_};
-ghost use Rattle.form.specs.Faults.{number, sectionNumber};
+ghost use Rattle.form.specs.Faults.{fault, number, sectionNumber};
 
 // What can be wrong with a grammar file, in the order of their numbers, 1 to 9.
 #[derive(Clone, Copy)]
@@ -39,6 +39,19 @@ pub struct Fault {
     pub kind: FaultKind,
     pub section: Section,
     pub index: u16,
+}
+
+impl Fault {
+    // The fault of this kind in this section, at this record or rule.
+    pub fn new(kind: FaultKind, section: Section, index: u16) -> Fault
+        ensures { λ r. ⌜ r ≡ fault kind section index ⌝ }
+    {
+        Fault {
+            kind,
+            section,
+            index,
+        }
+    }
 }
 
 impl FaultKind {

@@ -40,11 +40,8 @@ fn read_whole(heap: Global, bytes: &[u8]) -> Result<Grammar, CheckError>
 {
     let layout = split(bytes)?;
     if layout.rules.after.len() > 0 {
-        return Err(CheckError::Faulty(Fault {
-            kind: FaultKind::TrailingBytes,
-            section: Section::File,
-            index: 0,
-        }));
+        let fault = Fault::new(FaultKind::TrailingBytes, Section::File, 0);
+        return Err(CheckError::Faulty(fault));
     }
     read_contents(heap, &layout)
 }

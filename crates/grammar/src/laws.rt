@@ -22,17 +22,13 @@ fn none_at_fault(found: Option<usize>, kind: FaultKind, section: Section) -> Res
     ensures { λ r. ⌜ r ≡ unless kind section found ⌝ }
 {
     match found {
-        Some(k) => Err(Fault {
-            kind,
-            section,
-            index: k as u16,
-        }),
+        Some(k) => Err(Fault::new(kind, section, k as u16)),
         None => Ok(()),
     }
 }
 
 // No record is nested too deep, no repeat has a part that may take nothing, and no rule is left recursive.
-pub fn hold_laws(heap: Global, exprs: &[Expr], rules: &[u16]) -> Result<(), CheckError>
+pub(crate) fn hold_laws(heap: Global, exprs: &[Expr], rules: &[u16]) -> Result<(), CheckError>
     requires { ⌜ length (now exprs) ≤ 512 ⌝ ∗ ⌜ length (now rules) ≤ 64 ⌝ }
     ensures { λ r. ⌜ Told same (λ v. v ≡ lawful (now (exprs .entry)) (now (rules .entry))) r ⌝ }
 {

@@ -1,8 +1,7 @@
-// Grammar files: bytes to a checked grammar, exactly when they have the form, and what can be asked of it.
+// Bytes to a checked grammar, exactly when they have the form of a grammar file.
 mod check;
 pub mod error;
 pub mod grammar;
 mod laws;
-mod queries;
 mod records;
 mod sections;

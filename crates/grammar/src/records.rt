@@ -2,7 +2,8 @@ ghost use mathlib.Core.Path.{_≡_};
 ghost use Prim.Native.Nat.{_+_, _*_};
 ghost use lib.ListN.{length};
 ghost use Rattle.std.specs.Of.Vec.{vec-items};
-ghost use Rattle.form.specs.Verdict.{onePart, twoParts, expression, recordAt, ruleBody, bodyAt, each};
+ghost use Rattle.form.specs.Verdict.{isPart, onePart, twoParts, textRecord, rangeRecord, expression};
+ghost use Rattle.form.specs.Verdict.{recordAt, ruleBody, bodyAt, each};
 ghost use Rattle.grammar.specs.Views.{Told};
 use crate::error::CheckError;
 use crate::error::CheckErrorFromFault;
@@ -22,124 +23,95 @@ fn allow(ok: bool, kind: FaultKind, n: u16, e: Expr) -> Result<Expr, Fault>
     if ok {
         Ok(e)
     } else {
-        Err(Fault {
-            kind,
-            section: Section::Expressions,
-            index: n,
-        })
+        Err(Fault::new(kind, Section::Expressions, n))
     }
 }
 
 // Whether `a` is a record behind record n.
 fn is_part(c: Counts, n: u16, a: u16) -> bool
-    ensures { λ r. ⌜ r ≡ Rattle.form.specs.Verdict.isPart c n a ⌝ }
+    ensures { λ r. ⌜ r ≡ isPart c n a ⌝ }
 {
     n < a && a < c.exprs
 }
 
 // A record with one part, whose second field is not used.
-fn one_part(c: Counts, n: u16, a: u16, b: u16, e: Expr) -> Result<Expr, Fault>
-    ensures { λ r. ⌜ r ≡ onePart c n a b e ⌝ }
+fn one_part(c: Counts, n: u16, first: u16, second: u16, e: Expr) -> Result<Expr, Fault>
+    ensures { λ r. ⌜ r ≡ onePart c n first second e ⌝ }
 {
-    if b != 0 {
-        return Err(Fault {
-            kind: FaultKind::FieldOutOfRange,
-            section: Section::Expressions,
-            index: n,
-        });
+    if second != 0 {
+        return Err(Fault::new(FaultKind::FieldOutOfRange, Section::Expressions, n));
     }
-    allow(is_part(c, n, a), FaultKind::PartNotAllowed, n, e)
+    allow(is_part(c, n, first), FaultKind::PartNotAllowed, n, e)
 }
 
 // A record with two parts.
-fn two_parts(c: Counts, n: u16, a: u16, b: u16, e: Expr) -> Result<Expr, Fault>
-    ensures { λ r. ⌜ r ≡ twoParts c n a b e ⌝ }
+fn two_parts(c: Counts, n: u16, first: u16, second: u16, e: Expr) -> Result<Expr, Fault>
+    ensures { λ r. ⌜ r ≡ twoParts c n first second e ⌝ }
 {
-    allow(
-        is_part(c, n, a) && is_part(c, n, b),
-        FaultKind::PartNotAllowed,
-        n,
-        e,
-    )
+    let ok = is_part(c, n, first) && is_part(c, n, second);
+    allow(ok, FaultKind::PartNotAllowed, n, e)
+}
+
+// A text of 1 to 255 bytes inside the text section.
+fn read_text(c: Counts, n: u16, start: u16, len: u16) -> Result<Expr, Fault>
+    ensures { λ r. ⌜ r ≡ textRecord c n start len ⌝ }
+{
+    if 1 <= len && len <= 255 && start as u32 + len as u32 <= c.text as u32 {
+        let length = len as u8;
+        Ok(Expr::Text { start, length })
+    } else {
+        Err(Fault::new(FaultKind::FieldOutOfRange, Section::Expressions, n))
+    }
+}
+
+// A range of bytes that does not run down.
+fn read_range(n: u16, lowest: u16, highest: u16) -> Result<Expr, Fault>
+    ensures { λ r. ⌜ r ≡ rangeRecord n lowest highest ⌝ }
+{
+    if lowest <= highest && highest <= 255 {
+        let low = lowest as u8;
+        let high = highest as u8;
+        Ok(Expr::Range { low, high })
+    } else {
+        Err(Fault::new(FaultKind::FieldOutOfRange, Section::Expressions, n))
+    }
 }
 
 // Record n of a file with these counts: its kind is known, its fields are in range, and its parts are allowed.
-fn read_record(c: Counts, n: u16, kind: u8, a: u16, b: u16) -> Result<Expr, Fault>
-    ensures { λ r. ⌜ r ≡ expression c n kind a b ⌝ }
+fn read_record(c: Counts, n: u16, kind: u8, first: u16, second: u16) -> Result<Expr, Fault>
+    ensures { λ r. ⌜ r ≡ expression c n kind first second ⌝ }
 {
-    let out_of_range = Err(Fault {
-        kind: FaultKind::FieldOutOfRange,
-        section: Section::Expressions,
-        index: n,
-    });
+    let field = FaultKind::FieldOutOfRange;
     match kind {
-        0 => if a == 0 && b == 0 {
-            Ok(Expr::Empty)
-        } else {
-            out_of_range
-        },
-        1 => if 1 <= b && b <= 255 && a as u32 + b as u32 <= c.text as u32 {
-            Ok(Expr::Text {
-                start: a,
-                length: b as u8,
-            })
-        } else {
-            out_of_range
-        },
-        2 => if a <= b && b <= 255 {
-            Ok(Expr::Range {
-                low: a as u8,
-                high: b as u8,
-            })
-        } else {
-            out_of_range
-        },
-        3 => if a < c.rules && b == 0 {
-            Ok(Expr::Rule { rule: a })
-        } else {
-            out_of_range
-        },
-        4 => two_parts(
-            c,
+        0 => allow(first == 0 && second == 0, field, n, Expr::Empty),
+        1 => read_text(c, n, first, second),
+        2 => read_range(n, first, second),
+        3 => allow(
+            first < c.rules && second == 0,
+            field,
             n,
-            a,
-            b,
-            Expr::Sequence {
-                first: a,
-                second: b,
-            },
+            Expr::Rule { rule: first },
         ),
-        5 => two_parts(
-            c,
+        4 => two_parts(c, n, first, second, Expr::Sequence { first, second }),
+        5 => two_parts(c, n, first, second, Expr::Choice { first, second }),
+        6 => one_part(c, n, first, second, Expr::Repeat { part: first }),
+        7 => one_part(c, n, first, second, Expr::Ahead { part: first }),
+        8 => one_part(c, n, first, second, Expr::Absent { part: first }),
+        9 => one_part(c, n, first, second, Expr::Node { part: first }),
+        10 => one_part(c, n, first, second, Expr::Link { part: first }),
+        11 => one_part(c, n, first, second, Expr::Fold { part: first }),
+        12 => allow(
+            1 <= first && second == 0,
+            field,
             n,
-            a,
-            b,
-            Expr::Choice {
-                first: a,
-                second: b,
-            },
+            Expr::Tag { tag: first },
         ),
-        6 => one_part(c, n, a, b, Expr::Repeat { part: a }),
-        7 => one_part(c, n, a, b, Expr::Ahead { part: a }),
-        8 => one_part(c, n, a, b, Expr::Absent { part: a }),
-        9 => one_part(c, n, a, b, Expr::Node { part: a }),
-        10 => one_part(c, n, a, b, Expr::Link { part: a }),
-        11 => one_part(c, n, a, b, Expr::Fold { part: a }),
-        12 => if 1 <= a && b == 0 {
-            Ok(Expr::Tag { tag: a })
-        } else {
-            out_of_range
-        },
-        _ => Err(Fault {
-            kind: FaultKind::UnknownKind,
-            section: Section::Expressions,
-            index: n,
-        }),
+        _ => Err(Fault::new(FaultKind::UnknownKind, Section::Expressions, n)),
     }
 }
 
 // The records in their order, each of five bytes: its kind, then two numbers.
-pub fn read_records(heap: Global, bytes: &[u8], c: Counts) -> Result<Vec<Expr>, CheckError>
+pub(crate) fn read_records(heap: Global, bytes: &[u8], c: Counts) -> Result<Vec<Expr>, CheckError>
     requires { ⌜ length (now bytes) ≡ c .exprs * 5 ⌝ }
     ensures { λ r. ⌜ Told vec-items (λ v. v ≡ each (recordAt c) 5 (c .exprs) 0 (now (bytes .entry))) r ⌝ }
 {
@@ -166,16 +138,12 @@ fn read_body(n: u16, r: u16, high: u8, low: u8) -> Result<u16, Fault>
     if b < n {
         Ok(b)
     } else {
-        Err(Fault {
-            kind: FaultKind::PartNotAllowed,
-            section: Section::Rules,
-            index: r,
-        })
+        Err(Fault::new(FaultKind::PartNotAllowed, Section::Rules, r))
     }
 }
 
 // The bodies of the rules in their order, each of two bytes.
-pub fn read_bodies(heap: Global, bytes: &[u8], c: Counts) -> Result<Vec<u16>, CheckError>
+pub(crate) fn read_bodies(heap: Global, bytes: &[u8], c: Counts) -> Result<Vec<u16>, CheckError>
     requires { ⌜ length (now bytes) ≡ c .rules * 2 ⌝ }
     ensures { λ r. ⌜ Told vec-items (λ v. v ≡ each (bodyAt (c .exprs)) 2 (c .rules) 0 (now (bytes .entry))) r ⌝ }
 {

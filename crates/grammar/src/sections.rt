@@ -8,7 +8,7 @@ use form::fault::Section;
 
 // A section: its count, its bytes, and the bytes behind it.
 #[derive(Clone, Copy)]
-pub struct Piece<'a> {
+pub(crate) struct Piece<'a> {
     pub count: u16,
     pub bytes: &'a [u8],
     pub after: &'a [u8],
@@ -16,14 +16,14 @@ pub struct Piece<'a> {
 
 // The three sections of a file.
 #[derive(Clone, Copy)]
-pub struct Layout<'a> {
+pub(crate) struct Layout<'a> {
     pub text: Piece<'a>,
     pub exprs: Piece<'a>,
     pub rules: Piece<'a>,
 }
 
 // A number of 16 bits, high byte first.
-pub fn wide(high: u8, low: u8) -> u16
+pub(crate) fn wide(high: u8, low: u8) -> u16
     ensures { λ r. ⌜ r ≡ high * 256 + low ⌝ }
 {
     high as u16 * 256 + low as u16
@@ -41,27 +41,15 @@ fn take_piece<'a>(
     ensures { λ r. ⌜ pieceTold r ≡ piece section low high size (now (bytes .entry)) ⌝ }
 {
     let [first, second, after @ ..] = bytes else {
-        return Err(Fault {
-            kind: FaultKind::EndsEarly,
-            section,
-            index: 0,
-        });
+        return Err(Fault::new(FaultKind::EndsEarly, section, 0));
     };
     let count = wide(*first, *second);
     if count < low || high < count {
-        return Err(Fault {
-            kind: FaultKind::CountOutOfLimits,
-            section,
-            index: 0,
-        });
+        return Err(Fault::new(FaultKind::CountOutOfLimits, section, 0));
     }
     let n = count as usize * size;
     if after.len() < n {
-        return Err(Fault {
-            kind: FaultKind::EndsEarly,
-            section,
-            index: 0,
-        });
+        return Err(Fault::new(FaultKind::EndsEarly, section, 0));
     }
     Ok(Piece {
         count,
@@ -71,7 +59,7 @@ fn take_piece<'a>(
 }
 
 // The sections in their order, each within its limits.
-pub fn split<'a>(bytes: &'a [u8]) -> Result<Layout<'a>, Fault>
+pub(crate) fn split<'a>(bytes: &'a [u8]) -> Result<Layout<'a>, Fault>
     ensures { λ r. ⌜ layoutTold r ≡ layout (now (bytes .entry)) ⌝ }
 {
     let text = take_piece(bytes, Section::Text, 0, 1024, 1)?;

@@ -1,10 +1,11 @@
--- The filled table is the answer.
-use borrow.Author.Needs.{needs}
-use native.Mathlib.Nat.{sub-zero}
-use Rattle.std.proofs.shelf.Lists.{refilled-is}
+-- What the table is, and so what it tells.
+use Rattle.std.specs.Of.Vec.{vec-items}
+use Rattle.std.proofs.shelf.Results.{made-weaker}
+use Rattle.analysis.proofs.Tells.{tells-nesting}
 use Rattle.analysis.proofs.nesting.nestings.Needs as need
 
 pub returns : need.returns
-returns c =
-    let start = c .in-Continue-table .ensures tt .exact (λ y e. e) in
-    search (needs, refilled-is, sub-zero)
+returns c = record {
+  is = c .nesting-table .ensures;
+  tells = made-weaker (c .nesting-table .result) _ _ (λ v. tells-nesting (c .args .exprs .now) (vec-items v)) (c .nesting-table .ensures);
+}

@@ -5,9 +5,9 @@ use lib.ListN.{length}
 use Rattle.std.specs.Of.Vec.{vec-len, vec-items}
 use Rattle.form.specs.Tables.{marked}
 use Rattle.analysis.specs.Entries.{isHead}
-use Rattle.analysis.proofs.marks.heads.Given as given
+use Rattle.analysis.proofs.marks.head_marks.Given as given
 
 abbrev pub Inv-loop-q : given.InvT-loop-q
 Inv-loop-q l =
     (vec-len (l .marks) ≡ length (l .rules)) × (vec-len (l .table) ≡ length (l .exprs)) × (length (vec-items (l .found)) ≡ l .q)
-    × ((k : ℕ) → k < l .q → marked (vec-items (l .found)) k ≡ isHead (l .exprs) (l .rules) (l .record) k)
+    × ((k : ℕ) → k < l .q → marked (vec-items (l .found)) k ≡ isHead (l .exprs) (l .rules) (l .number) k)
