@@ -1,4 +1,2 @@
-pub mod Turns
 pub mod Settled
-pub mod Most
 pub mod Tells

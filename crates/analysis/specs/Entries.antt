@@ -4,14 +4,13 @@
 -- answers: the answer to a question for a record, by the answers for later ones.
 -- joins: whether a round marks a rule, by the rules that are marked and the records that are.
 -- isHead: whether a rule is a head of a record.
--- nesting: how deep a record is nested, by how deep later ones are.
-use Prim.Native.Nat.{ℕ, _+_}
+use Prim.Native.Nat.{ℕ}
 use mathlib.Core.List.{List}
 use mathlib.Core.Bool.{Bool, _||_}
 use lib.ListN.{length}
 use Rattle.form.specs.declared.expr.Expr.{Expr}
-use Rattle.form.specs.Records.{at, body, parts}
-use Rattle.form.specs.Tables.{Test, marked, only, takesNothing, hasHead, tested, settled, headed, deepest}
+use Rattle.form.specs.Records.{at, body}
+use Rattle.form.specs.Tables.{Test, marked, only, takesNothing, hasHead, tested, settled, headed}
 use Rattle.analysis.specs.declared.marks.Question.{Question}
 use Rattle.analysis.specs.declared.marks.Question.the-variants.{TakesNothing, HasHead}
 
@@ -31,6 +30,3 @@ joins es rs t r v = marked v r || marked t (body es rs r)
 -- record e, rule r
 abbrev pub isHead : List Expr → List ℕ → ℕ → ℕ → Bool
 isHead es rs e r = marked (headed es rs (only (length rs) r)) e
-
-abbrev pub nesting : List Expr → ℕ → List ℕ → ℕ
-nesting es e t = deepest t (parts (at es e)) + 1

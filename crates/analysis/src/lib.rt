@@ -1,4 +1,2 @@
-// What is worked out of a grammar's records and rules: which may take nothing, which rules are heads or left recursive, how deep each record is nested.
+// What the records of a grammar come to: which may take nothing, which rules are heads of them, and which rules are left recursive.
 pub mod marks;
-pub mod nesting;
-mod records;

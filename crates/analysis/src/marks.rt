@@ -9,9 +9,9 @@ ghost use Rattle.form.specs.Tables.{nullables as nullableTable, repeatsMarked, 
 ghost use Rattle.form.specs.Verdict.{firstNullableRepeat, firstLeftRecursive};
 ghost use Rattle.analysis.specs.Entries.{asked, settledRecords, answers, joins, isHead};
 ghost use Rattle.analysis.specs.Tells.{MarksNullable, HeadMarks, MarksHeads};
-use crate::records::body_of;
-use crate::records::record_at;
 use form::expr::Expr;
+use form::records::body_of;
+use form::records::record_at;
 use std::alloc::AllocError;
 use std::alloc::Global;
 

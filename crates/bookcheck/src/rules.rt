@@ -1,7 +1,7 @@
 use analysis::marks::heads;
 use analysis::marks::nullables;
-use analysis::nesting::nestings;
 use form::expr::Expr;
+use nesting::nestings;
 use std::error::AnyError;
 
 // The numbers of the rules that are marked, or `none`.

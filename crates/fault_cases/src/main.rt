@@ -1,5 +1,6 @@
 // Holds the check of grammar files to a table on standard input. A line is what is expected, the case's name, and the file's
-// bytes in base 16, `61*1024` for a run; all three behind each other with ` | ` between. A line that begins with # is passed over.
+// bytes in base 16, `61*1024` for a run; all three behind each other with ` | ` between. A case whose name begins with `front`
+// is of a grammar at the front of the bytes. A line that begins with # is passed over.
 ghost use Prim.Native.Nat.{_<_};
 use grammar::error::CheckError;
 use grammar::grammar::Grammar;
@@ -50,17 +51,32 @@ fn read_file(heap: Global, runs: &str) -> Result<Vec<u8>, AllocError> {
     Ok(out)
 }
 
-// What the check tells of a file: that it is accepted, or its fault as `bookcheck` prints it.
-fn told(heap: Global, bytes: &[u8]) -> Result<String, AllocError> {
-    match Grammar::check(heap, bytes) {
-        Ok(_) => String::from_str(heap, "accepted"),
-        Err(CheckError::Faulty(fault)) => {
+// An error of the check: a fault as `bookcheck` prints it. Want of memory is passed on.
+fn told_error(heap: Global, error: CheckError) -> Result<String, AllocError> {
+    match error {
+        CheckError::Faulty(fault) => {
             let number = fault.kind.number();
             let section = fault.section.number();
             let index = fault.index;
             format!(heap, "book {number} {section} {index}")
         }
-        Err(CheckError::OutOfMemory) => Err(AllocError),
+        CheckError::OutOfMemory => Err(AllocError),
+    }
+}
+
+// What the check tells of a whole file: that it is accepted, or its fault.
+fn told(heap: Global, bytes: &[u8]) -> Result<String, AllocError> {
+    match Grammar::check(heap, bytes) {
+        Ok(_) => String::from_str(heap, "accepted"),
+        Err(error) => told_error(heap, error),
+    }
+}
+
+// What the check tells of a grammar at the front of the bytes: where it ends, or its fault.
+fn told_front(heap: Global, bytes: &[u8]) -> Result<String, AllocError> {
+    match Grammar::check_front(heap, bytes) {
+        Ok((_, end)) => format!(heap, "ends at {end}"),
+        Err(error) => told_error(heap, error),
     }
 }
 
@@ -69,11 +85,15 @@ fn run_case(rt: &LibcRuntime, line: &str) -> Result<bool, AnyError> {
     let Some((expected, rest)) = line.split_once(" | ") else {
         return Err("a line with no name".into());
     };
-    let Some((name, runs)) = rest.split_once(" | ") else {
+    let Some((name, runs)) = rest.split_once(" |") else {
         return Err("a line with no bytes".into());
     };
     let file = read_file(rt.alloc(), runs)?;
-    let answer = told(rt.alloc(), &file)?;
+    let answer = if name.starts_with("front") {
+        told_front(rt.alloc(), &file)?
+    } else {
+        told(rt.alloc(), &file)?
+    };
     let right = answer.as_str() == expected;
     let mark = if right { "ok" } else { "NOT AS EXPECTED" };
     println!(rt, "{mark} {name}: {answer}")?;

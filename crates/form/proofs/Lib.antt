@@ -1,4 +1,5 @@
 pub mod Filled
+pub mod Turns
 pub mod Settled
 pub mod Rounds
 pub mod Nullable

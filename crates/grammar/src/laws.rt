@@ -9,11 +9,11 @@ use crate::error::CheckErrorFromAlloc;
 use crate::error::CheckErrorFromFault;
 use analysis::marks::first_left_recursive;
 use analysis::marks::first_nullable_repeat;
-use analysis::nesting::first_too_deep;
 use form::expr::Expr;
 use form::fault::Fault;
 use form::fault::FaultKind;
 use form::fault::Section;
+use nesting::first_too_deep;
 use std::alloc::Global;
 
 // A fault of this kind at the number that was found, or none.

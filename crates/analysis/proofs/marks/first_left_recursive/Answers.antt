@@ -1,7 +1,7 @@
 -- The look ends where the test holds, and else goes on.
 use lib.ListN.{length}
 use Rattle.form.specs.Tables.{leftRecursive}
-use Rattle.analysis.proofs.Turns.{first-here, first-later}
+use Rattle.form.proofs.Turns.{first-here, first-later}
 use Rattle.analysis.proofs.marks.first_left_recursive.Needs as need
 
 pub returns-then-is-left-recursive : need.returns-then-is-left-recursive

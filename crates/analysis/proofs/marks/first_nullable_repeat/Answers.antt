@@ -3,7 +3,7 @@ use borrow.Author.Needs.{needs}
 use mathlib.Core.Path.{_∙_, ap}
 use Rattle.form.specs.Records.{at}
 use Rattle.form.specs.Tables.{repeatsMarked}
-use Rattle.analysis.proofs.Turns.{first-here, first-later}
+use Rattle.form.proofs.Turns.{first-here, first-later}
 use Rattle.analysis.proofs.marks.first_nullable_repeat.Needs as need
 
 pub returns-then-repeats-marked : need.returns-then-repeats-marked

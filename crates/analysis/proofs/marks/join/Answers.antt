@@ -1,7 +1,7 @@
 -- A turn fills one more entry.
 use borrow.Author.Needs.{needs}
 use Rattle.form.specs.Tables.{joined}
-use Rattle.analysis.proofs.Turns.{filled-turn}
+use Rattle.form.proofs.Turns.{filled-turn}
 use Rattle.analysis.proofs.marks.join.Needs as need
 
 pub loop-q-again : need.loop-q-again

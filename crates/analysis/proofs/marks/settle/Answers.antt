@@ -1,7 +1,7 @@
 -- A turn is one more round.
 use borrow.Author.Needs.{needs}
 use Rattle.form.specs.Tables.{settled}
-use Rattle.analysis.proofs.Turns.{turns-turn}
+use Rattle.form.proofs.Turns.{turns-turn}
 use Rattle.analysis.proofs.marks.settle.Needs as need
 
 pub loop-round-again : need.loop-round-again

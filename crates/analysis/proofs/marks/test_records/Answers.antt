@@ -1,7 +1,7 @@
 -- A turn fills one more entry.
 use borrow.Author.Needs.{needs}
 use Rattle.form.specs.Tables.{recordTable}
-use Rattle.analysis.proofs.Turns.{filled-turn}
+use Rattle.form.proofs.Turns.{filled-turn}
 use Rattle.analysis.proofs.marks.test_records.Needs as need
 
 pub loop-e-again : need.loop-e-again

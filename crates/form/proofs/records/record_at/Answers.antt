@@ -1,7 +1,7 @@
 -- Within the records the default does not matter, and past them it is the answer.
 use mathlib.Core.Path.{sym}
 use Rattle.std.proofs.shelf.Lists.{getD-default, getD-past}
-use Rattle.analysis.proofs.records.record_at.Needs as need
+use Rattle.form.proofs.records.record_at.Needs as need
 
 pub returns-then-number-exprs : need.returns-then-number-exprs
 returns-then-number-exprs c = getD-default _ _ _ _ (c .if-number-exprs .taken)

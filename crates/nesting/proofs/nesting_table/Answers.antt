@@ -3,7 +3,7 @@ use borrow.Author.Needs.{needs}
 use native.Mathlib.Nat.{sub-zero}
 use Rattle.std.proofs.shelf.Lists.{refilled-is}
 use Rattle.form.specs.Tables.{recordTable}
-use Rattle.analysis.proofs.nesting.nesting_table.Needs as need
+use Rattle.nesting.proofs.nesting_table.Needs as need
 
 pub returns : need.returns
 unfolding recordTable

@@ -1,8 +1,8 @@
 -- What the table is, and so what it tells.
 use Rattle.std.specs.Of.Vec.{vec-items}
 use Rattle.std.proofs.shelf.Results.{made-weaker}
-use Rattle.analysis.proofs.Tells.{tells-nesting}
-use Rattle.analysis.proofs.nesting.nestings.Needs as need
+use Rattle.nesting.proofs.Tells.{tells-nesting}
+use Rattle.nesting.proofs.nestings.Needs as need
 
 pub returns : need.returns
 returns c = record {

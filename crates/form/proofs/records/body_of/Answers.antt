@@ -1,7 +1,7 @@
 -- Within the rules the default does not matter, and past them it is the answer.
 use mathlib.Core.Path.{sym}
 use Rattle.std.proofs.shelf.Lists.{getD-default, getD-past}
-use Rattle.analysis.proofs.records.body_of.Needs as need
+use Rattle.form.proofs.records.body_of.Needs as need
 
 pub returns-then-rule-rules : need.returns-then-rule-rules
 returns-then-rule-rules c = getD-default _ _ _ _ (c .if-rule-rules .taken)

@@ -5,7 +5,7 @@ use lib.Dec.{ltb}
 use lib.ListN.{length, getD}
 use Rattle.form.specs.Tables.{firstFrom, nestings}
 use Rattle.form.specs.Verdict.{firstTooDeep}
-use Rattle.analysis.proofs.nesting.first_too_deep.Given as given
+use Rattle.nesting.proofs.first_too_deep.Given as given
 
 abbrev pub Inv-loop-e : given.InvT-loop-e
 Inv-loop-e l = firstFrom (λ k. ltb 32 (getD (nestings (l .exprs)) k 0)) (l .e) (length (l .exprs) - l .e) ≡ firstTooDeep (l .exprs)

@@ -10,7 +10,7 @@ use Rattle.std.proofs.shelf.Elements.{all-set, all-weaker, all-from-getD}
 use Rattle.form.specs.declared.expr.Expr.{Expr}
 use Rattle.form.specs.Records.{at, parts}
 use Rattle.form.specs.Tables.{deepest, filled}
-use Rattle.analysis.specs.Entries.{nesting}
+use Rattle.nesting.specs.Nesting.{oneMore}
 
 -- every entry is at most d
 abbrev Most : ℕ → List ℕ → Type 0
@@ -25,7 +25,7 @@ deepest-most : (d : ℕ) (t : List ℕ) → Most d t → (ps : List ℕ) → dee
 deepest-most d t h [] = omega arith
 deepest-most d t h (a ∷ rest) = omega (arith, most-at d a t h, deepest-most d t h rest)
 
-nesting-most : (es : List Expr) (n d : ℕ) (t : List ℕ) → Most d t → nesting es n t ≤ d + 1
+nesting-most : (es : List Expr) (n d : ℕ) (t : List ℕ) → Most d t → oneMore es n t ≤ d + 1
 nesting-most es n d t h = omega (arith, deepest-most d t h (parts (at es n)))
 
 -- where each entry is at most one more than those behind it
@@ -39,6 +39,6 @@ filled-most f grows n (suc k) m =
 
 -- the table as it is when the records from n on are filled
 pub deepest-fits : (es : List Expr) (n : ℕ) (t u ps : List ℕ) → t ≡ replicate (length es) 0
-    → u ≡ filled (nesting es) n (length es - n) t → deepest u ps ≤ length es - n
+    → u ≡ filled (oneMore es) n (length es - n) t → deepest u ps ≤ length es - n
 deepest-fits es n t u ps et eu =
-    rw (eu, et) (deepest-most (length es - n) _ (filled-most (nesting es) (nesting-most es) n (length es - n) (length es)) ps)
+    rw (eu, et) (deepest-most (length es - n) _ (filled-most (oneMore es) (nesting-most es) n (length es - n) (length es)) ps)

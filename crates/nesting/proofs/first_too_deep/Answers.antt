@@ -1,7 +1,7 @@
 -- The look ends where the test holds, and else goes on.
 use borrow.Author.Needs.{needs}
-use Rattle.analysis.proofs.Turns.{first-here, first-later}
-use Rattle.analysis.proofs.nesting.first_too_deep.Needs as need
+use Rattle.form.proofs.Turns.{first-here, first-later}
+use Rattle.nesting.proofs.first_too_deep.Needs as need
 
 pub returns-then-is-too-deep : need.returns-then-is-too-deep
 returns-then-is-too-deep c =

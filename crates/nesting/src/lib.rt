@@ -1,3 +1,4 @@
+// How deep the records of a grammar are nested.
 ghost use mathlib.Core.Path.{_≡_};
 ghost use Prim.Native.Nat.{_-_};
 ghost use lib.Dec.{ltb};
@@ -7,10 +8,10 @@ ghost use Rattle.std.specs.Vec.{made};
 ghost use Rattle.form.specs.Records.{at, parts};
 ghost use Rattle.form.specs.Tables.{deepest, filled, nestings as nestingTable};
 ghost use Rattle.form.specs.Verdict.{firstTooDeep};
-ghost use Rattle.analysis.specs.Entries.{nesting};
-ghost use Rattle.analysis.specs.Tells.{TellsNesting};
-use crate::records::record_at;
+ghost use Rattle.nesting.specs.Nesting.{oneMore};
+ghost use Rattle.nesting.specs.Nesting.{TellsNesting};
 use form::expr::Expr;
+use form::records::record_at;
 use std::alloc::AllocError;
 use std::alloc::Global;
 
@@ -50,7 +51,7 @@ fn deepest_part(exprs: &[Expr], number: usize, table: &[usize]) -> usize
 // Works out how deep the records from `number` on are nested, each later one before those that have it as a part.
 fn nest(exprs: &[Expr], number: usize, table: &mut [usize])
     requires { ⌜ now table ≡ replicate (length (now exprs)) 0 ⌝ }
-    ensures { λ _. ⌜ now (table .exit) ≡ filled (nesting (now (exprs .entry))) number (length (now (exprs .entry)) - number) (now (table .entry)) ⌝ }
+    ensures { λ _. ⌜ now (table .exit) ≡ filled (oneMore (now (exprs .entry))) number (length (now (exprs .entry)) - number) (now (table .entry)) ⌝ }
 {
     if number < exprs.len() {
         nest(exprs, number + 1, table);

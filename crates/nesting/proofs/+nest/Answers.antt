@@ -6,9 +6,9 @@ use native.Mathlib.Omega.{arith}
 use lib.ListN.{length}
 use Rattle.std.proofs.shelf.Lists.{length-replicate}
 use Rattle.form.specs.Records.{at, parts}
-use Rattle.analysis.proofs.Turns.{filled-turn}
-use Rattle.analysis.proofs.Most.{deepest-fits}
-use Rattle.analysis.proofs.nesting.+nest.Needs as need
+use Rattle.form.proofs.Turns.{filled-turn}
+use Rattle.nesting.proofs.Most.{deepest-fits}
+use Rattle.nesting.proofs.+nest.Needs as need
 
 pub add-table : need.add-table
 add-table t c =
