@@ -1,5 +1,5 @@
 -- A file is accepted exactly when it has the form, and a fault that tables told is one in words.
-use Prim.Native.Nat.{ℕ, zero, suc, _+_, _-_, _*_, _<_, _≤_}
+use Prim.Native.Nat.{ℕ, zero, suc, _+_, _-_, _*_, _<_}
 use mathlib.Core.Path.{_≡_, refl, sym, ap, subst, _∙_}
 use mathlib.Core.List.{List, [], _∷_, _++_}
 use mathlib.Core.Bool.{Bool, true, _||_}
@@ -27,11 +27,11 @@ use Rattle.form.specs.Nesting.{TooDeep}
 use Rattle.form.specs.Form.{Contents, Laid, Form}
 use Rattle.form.specs.Bytes.{encode, AllBytes}
 use Rattle.form.specs.Verdict.{piece, Layout, layout, ended, wideAt, allow, isPart, onePart, expression, recordAt, bodyAt, each, counts, unless, lawful, firstTooDeep, firstNullableRepeat, firstLeftRecursive, contents, verdict, frontVerdict}
-use Rattle.form.specs.Meaning.{Found, Begins, Explained, Meant, FrontMeant}
+use Rattle.form.specs.Meaning.{Found, Explained, Meant, FrontMeant}
 use Rattle.form.proofs.Yields.{ok-is, err-ok, then-ok, then-is, Only, only-cond, only-then, only-ok, only-err}
 use Rattle.form.proofs.Lowest.{deep-found, repeats-found, recursion-found}
 use Rattle.form.proofs.Read.{laid-read, bytes-read}
-use Rattle.form.proofs.Written.{whole, layout-written, contents-written}
+use Rattle.form.proofs.Written.{layout-written, contents-written}
 
 -- Accepted is what has the form.
 

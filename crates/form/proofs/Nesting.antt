@@ -14,7 +14,7 @@ use Rattle.form.specs.Records.{at, parts, Later, Ordered}
 use Rattle.form.specs.Nesting.{Nested, TooDeep}
 use Rattle.form.specs.Nesting.Nested.{leaf, one, two}
 use Rattle.form.specs.Tables.{deepest, nestings}
-use Rattle.form.proofs.Filled.{Local, table-at}
+use Rattle.form.proofs.Filled.{table-at}
 
 deepest-local : (t u : List ℕ) (k n : ℕ) (ps : List ℕ) → Later k n ps → ((j : ℕ) → k < j → getD t j 0 ≡ getD u j 0) → deepest t ps ≡ deepest u ps
 deepest-local t u k n [] l h = refl

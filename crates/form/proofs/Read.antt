@@ -23,7 +23,7 @@ use Rattle.form.specs.Records.{at, parts, Later}
 use Rattle.form.specs.Form.{Contents, Fields, Laid}
 use Rattle.form.specs.Bytes.{wide, fields, written, encode, AllBytes}
 use Rattle.form.specs.Bytes as bytes
-use Rattle.form.specs.Verdict.{Piece, wideAt, piece, Layout, layout, allow, isPart, onePart, expression, recordAt, ruleBody, bodyAt, each, counts}
+use Rattle.form.specs.Verdict.{Piece, wideAt, piece, Layout, layout, allow, isPart, onePart, expression, recordAt, bodyAt, each, counts}
 use Rattle.form.proofs.Yields.{ok-is, then-ok, Yields, of-cond, of-ok, of-err}
 
 bytes-take : (n : ℕ) (s : List ℕ) → AllBytes s → AllBytes (take n s)

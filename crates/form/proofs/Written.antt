@@ -1,10 +1,10 @@
 -- Contents that have the form, written as bytes in front of any others, are read again as they are.
-use Prim.Native.Nat.{ℕ, zero, suc, _+_, _*_, _/_, _%_, _<_, _≤_}
+use Prim.Native.Nat.{ℕ, suc, _+_, _*_, _/_, _%_, _<_, _≤_}
 use mathlib.Core.Path.{_≡_, refl, sym, ap, subst, _∙_}
 use mathlib.Core.List.{List, [], _∷_, _++_}
 use mathlib.Core.Bool.{Bool, true, false, _&&_, _||_}
 use native.Mathlib.Omega.{arith}
-use lib.Dec.{leb, ltb, eqb}
+use lib.Dec.{leb, ltb}
 use lib.ListN.{length, getD, take, drop, length-append}
 use Rattle.std.specs.declared.option.Option.{Option}
 use Rattle.std.specs.declared.option.Option.the-variants.{Some, None}
@@ -20,12 +20,11 @@ use Rattle.form.specs.declared.fault.FaultKind.{FaultKind}
 use Rattle.form.specs.declared.fault.FaultKind.the-variants.{FieldOutOfRange, PartNotAllowed, NestedTooDeep, NullableRepeat, LeftRecursion}
 use Rattle.form.specs.declared.fault.Section.{Section}
 use Rattle.form.specs.declared.fault.Section.the-variants as section
-use Rattle.form.specs.Faults.{andThen}
 use Rattle.form.specs.Records.{at, parts, Later}
 use Rattle.form.specs.Nullable.{NullablePart}
 use Rattle.form.specs.Heads.{LeftRecursive}
 use Rattle.form.specs.Nesting.{TooDeep}
-use Rattle.form.specs.Form.{Contents, Fields, Laid, Form}
+use Rattle.form.specs.Form.{Contents, Fields, Form}
 use Rattle.form.specs.Bytes.{wide, written, encode}
 use Rattle.form.specs.Bytes as bytes
 use Rattle.form.specs.Verdict.{Piece, wideAt, piece, Layout, layout, allow, isPart, recordAt, bodyAt, each, counts, unless, lawful, firstTooDeep, firstNullableRepeat, firstLeftRecursive, contents}

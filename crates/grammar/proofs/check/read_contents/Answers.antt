@@ -4,7 +4,7 @@ use mathlib.Core.Path.{_≡_, sym, subst, subst₂}
 use lib.ListN.{length}
 use Rattle.std.specs.Of.Vec.{vec-items}
 use Rattle.std.specs.declared.result.Result.the-variants.{Ok}
-use Rattle.form.specs.Form.{Laid, Form, holding}
+use Rattle.form.specs.Form.{Form, holding}
 use Rattle.form.specs.Verdict.{lawful}
 use Rattle.form.proofs.Meaning.{form-read}
 use Rattle.form.proofs.Read.{laid-read}

@@ -1,5 +1,4 @@
 -- What was found is the number of a record or a rule, so it fits a fault.
-use Prim.Native.Nat.{_≤_}
 use native.Mathlib.Omega.{arith}
 use lib.ListN.{length}
 use Rattle.grammar.proofs.Small.{found-small}
