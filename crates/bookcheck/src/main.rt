@@ -1,4 +1,6 @@
 // Reads a grammar file from standard input, and says what is in it, or what is wrong with it and where.
+#![tactic(auto)]
+
 mod records;
 mod rules;
 

@@ -1,6 +1,8 @@
 // Holds the check of grammar files to a table on standard input. A line is what is expected, the case's name, and the file's
 // bytes in base 16, `61*1024` for a run; all three behind each other with ` | ` between. A case whose name begins with `front`
 // is of a grammar at the front of the bytes. A line that begins with # is passed over.
+#![tactic(auto)]
+
 ghost use Rattle.std.specs.Prelude.{◌<◌};
 
 use anyhow::anyhow;

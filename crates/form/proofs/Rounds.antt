@@ -5,7 +5,7 @@ use Rattle.std.proofs.lemmas.List.{get_or_past}
 use Rattle.form.specs.declared.expr.Expr.{Expr}
 use Rattle.form.specs.declared.expr.Expr.TheVariants.{Range}
 use Rattle.form.specs.Records.{at, body, Ordered}
-use Rattle.form.specs.Tables.{marked, blank, filled, turns, Test, tested, round, settled, record_table, joined}
+use Rattle.form.specs.Tables.{marked, blank, Test, tested, round, settled, record_table, joined}
 use Rattle.form.proofs.Filled.{filled_length, filled_at, filled_all, Local, table_length, table_at}
 use Rattle.form.proofs.Settled.{turns_keep, Grown, at_rest}
 

@@ -4,7 +4,7 @@
 use Rattle.std.specs.Prelude.{ℕ, ◌+◌, ◌<◌, ◌≤◌, List, length, slice_index}
 use Rattle.form.specs.declared.expr.Expr.{Expr}
 use Rattle.form.specs.declared.expr.Expr.TheVariants.{Empty, Text, Range, Rule, Sequence, Choice, Repeat, Ahead, Absent, Node, Link, Fold, Tag}
-use Rattle.form.specs.Records.{at, parts, Ordered}
+use Rattle.form.specs.Records.{at, Ordered}
 use Rattle.form.specs.Nullable.{NullablePart}
 use Rattle.form.specs.Heads.{LeftRecursive}
 use Rattle.form.specs.Nesting.{TooDeep}

@@ -1,4 +1,6 @@
 // Bytes to a checked grammar, exactly when they have the form of a grammar file.
+#![tactic(auto)]
+
 mod check;
 pub mod error;
 pub mod grammar;

@@ -1,4 +1,6 @@
 // How deep the records of a grammar are nested.
+#![tactic(auto)]
+
 ghost use Rattle.std.specs.Prelude.{◌≡◌, ◌-◌, length, replicate, IfOk, nat_lt, slice_index};
 ghost use Rattle.form.specs.Records.{at, parts};
 ghost use Rattle.form.specs.Tables.{deepest, filled, nestings};

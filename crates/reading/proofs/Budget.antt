@@ -5,7 +5,7 @@ use lib.Dec.{leb-suc-suc, leb-suc-zero}
 use Rattle.reading.specs.declared.answer.Reading.{Reading}
 use Rattle.reading.specs.Tree.{Tree, body}
 use Rattle.reading.specs.Tree.Tree.{empty, text, range, rule, sequence, choice, repeat, ahead, absent, node, link, fold, tag}
-use Rattle.reading.specs.Reading.{Progress, Outcome, Answer, Work, byte_at, looked, left, made, start, fits, look, spell, between, after, back_to, onward, turns, taken, take, work, close, read}
+use Rattle.reading.specs.Reading.{Progress, Outcome, Answer, Work, byte_at, looked, left, made, start, fits, look, spell, after, back_to, onward, turns, taken, take, work, close, read}
 use Rattle.reading.specs.Reading.Outcome.{deep, hit, miss}
 use Rattle.reading.specs.Reading.Answer.{too_deep, done}
 use Rattle.reading.specs.Reached.{Pair, Visits, visited_after, visited_back_at, visited_onward, visited_in_turns, visited, reached}

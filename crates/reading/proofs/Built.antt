@@ -1,11 +1,10 @@
 -- Building ends where the reading ends, and makes as many nodes as it counts.
-use Rattle.std.proofs.Common.{◌≡◌, ℕ, zero, suc, ◌+◌, ◌-◌, ◌<◌, ◌≤◌, min, Bool, true, false, cond, ◌&&◌, eqb, ltb, leb, List, [], ◌∷◌, ◌++◌, length, sym, refl, ap, ◌∙◌, subst, arith, length-append, length-set}
-use Rattle.std.proofs.lemmas.Bool.{cond_both}
+use Rattle.std.proofs.Common.{◌≡◌, ℕ, zero, suc, ◌+◌, ◌-◌, ◌≤◌, Bool, true, false, cond, ◌&&◌, eqb, ltb, leb, List, [], ◌∷◌, length, sym, refl, ◌∙◌, subst, arith, length-append, length-set}
 use Rattle.reading.specs.declared.answer.Reading.{Reading}
 use Rattle.reading.specs.declared.node.Node.{Node}
 use Rattle.reading.specs.Tree.{Tree, body}
 use Rattle.reading.specs.Tree.Tree.{empty, text, range, rule, sequence, choice, repeat, ahead, absent, node, link, fold, tag}
-use Rattle.reading.specs.Reading.{Progress, Outcome, Answer, Work, cap, byte_at, looked, left, made, start, fits, look, spell, between, after, back_to, onward, turns, taken, take, work, close, read}
+use Rattle.reading.specs.Reading.{Progress, Outcome, Answer, Work, cap, byte_at, looked, left, made, start, fits, look, spell, after, back_to, onward, turns, taken, take, work, close, read}
 use Rattle.reading.specs.Reading.Outcome.{deep, hit, miss}
 use Rattle.reading.specs.Reading.Answer.{too_deep, done}
 use Rattle.reading.specs.Building.{Draft, Build, none, node_at, alter, adopt, under, before, with_child, ending_at, tagged, move_to, begin, finish, aside, back, name, choose, moved_built, again_built, turns_built, build, grow}

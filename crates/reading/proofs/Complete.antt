@@ -1,15 +1,13 @@
 -- What the relation derives, plain reading comes to under every budget that is high enough.
-use Rattle.std.proofs.Common.{◌≡◌, ℕ, zero, suc, ◌+◌, ◌-◌, ◌<◌, ◌≤◌, min, max, Bool, true, false, ◌&&◌, eqb, ltb, leb, List, [], ◌∷◌, length, Some, None, Option, sym, refl, ap, ◌∙◌, subst, arith}
-use Rattle.std.proofs.lemmas.Bool.{eqb-true, eq-eqb, leb-true, le-leb, lt-ltb, ltb-true, both_ways, and_parts, and_from}
-use Rattle.reading.specs.declared.answer.Reading.{Reading}
+use Rattle.std.proofs.Common.{◌≡◌, ℕ, zero, suc, ◌+◌, ◌-◌, ◌<◌, ◌≤◌, min, max, Bool, true, false, ◌&&◌, eqb, ltb, leb, List, [], ◌∷◌, length, Some, sym, refl, ap, ◌∙◌, subst, arith}
+use Rattle.std.proofs.lemmas.Bool.{eqb-true, eq-eqb, leb-true, le-leb, lt-ltb, ltb-true, and_parts, and_from}
 use Rattle.reading.specs.Tree.{Tree, body}
-use Rattle.reading.specs.Reading.{Progress, Outcome, Answer, Work, cap, byte_at, looked, left, made, start, fits, look, spell, between, after, back_to, onward, turns, taken, take, work, close, read}
+use Rattle.reading.specs.Reading.{Progress, Outcome, Work, cap, byte_at, looked, left, made, start, fits, look, spell, after, back_to, onward, turns, take, work, close, read}
 use Rattle.reading.specs.Reading.Outcome.{deep, hit, miss}
-use Rattle.reading.specs.Reading.Answer.{too_deep, done}
 use Rattle.reading.specs.Semantics.{Came, Comes, behind, closed}
 use Rattle.reading.specs.Semantics.Came.{matched, failed}
 use Rattle.reading.proofs.Induction.{fits_inside}
-use Rattle.reading.proofs.Positions.{Stayed, PlacedIf, work_stays, read_stays}
+use Rattle.reading.proofs.Positions.{Stayed, work_stays, read_stays}
 use Rattle.reading.proofs.Moves.{Moves, Moving}
 use Rattle.reading.proofs.Sound.{Grown, stay, grow_on, Fits, fitting}
 

@@ -1,8 +1,8 @@
 -- Counting different pairs: those of a grammar and an input are no more than rules times positions.
-use Rattle.std.proofs.Common.{◌≡◌, ℕ, zero, suc, ◌+◌, ◌*◌, ◌<◌, ◌≤◌, Bool, true, false, cond, ◌&&◌, ◌||◌, eqb, ◌⊎◌, List, [], ◌∷◌, ◌++◌, length, sym, refl, ap, ◌∙◌, subst, inl, inr, suc-mul, zero-mul, arith, length-append}
+use Rattle.std.proofs.Common.{◌≡◌, ℕ, zero, suc, ◌*◌, ◌<◌, ◌≤◌, Bool, true, false, cond, ◌||◌, eqb, ◌⊎◌, List, [], ◌∷◌, ◌++◌, length, sym, refl, ap, ◌∙◌, subst, inl, inr, suc-mul, zero-mul, arith, length-append}
 use Rattle.std.proofs.lemmas.Bool.{eqb-true, eqb-false, eq-eqb, both_ways, and_parts}
 use Rattle.reading.specs.Lists.{In, Apart, Within}
-use Rattle.reading.specs.Reached.{Pair, same, among, add, once, different}
+use Rattle.reading.specs.Reached.{Pair, same, among, once, different}
 use Rattle.reading.specs.ReadingLaws.{InGrid}
 use Rattle.reading.proofs.Visits.{in_left, in_right}
 

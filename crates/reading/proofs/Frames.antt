@@ -1,5 +1,5 @@
 -- What building leaves of the nodes made before. A fold's node keeps its first child, and a link's becomes the last child.
-use Rattle.std.proofs.Common.{◌≡◌, ℕ, zero, suc, ◌+◌, ◌-◌, ◌<◌, ◌≤◌, Bool, true, false, cond, eqb, ltb, ◌⊎◌, List, [], ◌∷◌, ◌++◌, length, get_or, sym, refl, ap, ◌∙◌, subst, inl, inr, arith}
+use Rattle.std.proofs.Common.{◌≡◌, ℕ, zero, suc, ◌+◌, ◌-◌, ◌<◌, ◌≤◌, Bool, true, false, cond, eqb, ltb, List, [], ◌∷◌, ◌++◌, length, sym, refl, ap, ◌∙◌, inl, inr, arith}
 use lib.ListN.{get_or-append}
 use Rattle.std.proofs.lemmas.Bool.{ne_eqb, eq-eqb, cond-true, cond-false}
 use Rattle.reading.specs.declared.node.Node.{Node}
@@ -8,9 +8,9 @@ use Rattle.reading.specs.Tree.Tree.{empty, text, range, rule, sequence, choice, 
 use Rattle.reading.specs.Reading.{Outcome, Answer, work, start, read}
 use Rattle.reading.specs.Reading.Outcome.{deep, hit, miss}
 use Rattle.reading.specs.Building.{Draft, Build, none, fresh, tagged, ending_at, under, before, with_child, node_at, alter, adopt, move_to, begin, finish, aside, back, name, choose, moved_built, again_built, turns_built, build, grow}
-use Rattle.reading.specs.TableLaws.{Folded, Linked, Sound, Link, FoldsKept, LinksKept, TagsKept}
+use Rattle.reading.specs.TableLaws.{Folded, Linked, Sound}
 use Rattle.reading.proofs.Built.{alter_length, begin_length}
-use Rattle.reading.proofs.SoundTables.{Further, build_sound}
+use Rattle.reading.proofs.SoundTables.{build_sound}
 
 -- Nodes: any keeps where it begins, and a first child that it has; one below the floor keeps all but its next.
 

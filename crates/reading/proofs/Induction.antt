@@ -1,8 +1,8 @@
 -- A property of outcomes that each step of plain reading keeps is one of every expression's outcome.
-use Rattle.std.proofs.Common.{◌≡◌, ℕ, zero, suc, ◌-◌, ◌<◌, Bool, true, false, ◌&&◌, eqb, ltb, leb, List, [], ◌∷◌, length, Some, None, Option, refl, arith}
+use Rattle.std.proofs.Common.{◌≡◌, ℕ, zero, suc, ◌-◌, ◌<◌, Bool, true, false, ◌&&◌, eqb, ltb, leb, List, [], ◌∷◌, length, refl, arith}
 use Rattle.reading.specs.Tree.{Tree}
 use Rattle.reading.specs.Tree.Tree.{empty, text, range, rule, sequence, choice, repeat, ahead, absent, node, link, fold, tag}
-use Rattle.reading.specs.Reading.{Progress, Outcome, Answer, Work, byte_at, looked, left, made, fits, look, spell, between, after, back_to, onward, turns, take, work}
+use Rattle.reading.specs.Reading.{Progress, Outcome, Answer, Work, byte_at, looked, left, made, fits, look, spell, after, back_to, onward, turns, take, work}
 use Rattle.reading.specs.Reading.Outcome.{deep, hit, miss}
 
 -- only a byte of the input fits

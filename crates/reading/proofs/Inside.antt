@@ -1,12 +1,12 @@
 -- The pairs inside a reading that completes complete too, and are less high; all pairs are of the grammar and the input.
-use Rattle.std.proofs.Common.{◌≡◌, ℕ, zero, suc, ◌-◌, ◌<◌, ◌≤◌, ◌⊎◌, List, [], ◌∷◌, length, sym, refl, ap, ◌∙◌, subst, inl, inr, arith}
+use Rattle.std.proofs.Common.{◌≡◌, ℕ, zero, suc, ◌<◌, ◌≤◌, List, [], ◌∷◌, length, sym, refl, ap, ◌∙◌, subst, inl, inr, arith}
 use Rattle.reading.specs.declared.answer.Reading.{Reading}
 use Rattle.reading.specs.Tree.{Tree, body, Asks, Closed}
 use Rattle.reading.specs.Reading.{Outcome, Answer, start, work, close, read}
 use Rattle.reading.specs.Reading.Outcome.{deep, hit, miss}
 use Rattle.reading.specs.Reading.Answer.{too_deep, done}
 use Rattle.reading.specs.Lists.{In}
-use Rattle.reading.specs.Reached.{Pair, visited, reached, inside}
+use Rattle.reading.specs.Reached.{Pair, reached, inside}
 use Rattle.reading.specs.ReadingLaws.{Inner, Budgeted, InGrid}
 use Rattle.reading.proofs.Positions.{read_stays}
 use Rattle.reading.proofs.Budget.{budget}

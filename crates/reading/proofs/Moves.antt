@@ -1,19 +1,19 @@
 -- What matches without taking a byte may take nothing. So in a grammar the part of a repeat takes a byte wherever it matches.
-use Rattle.std.proofs.Common.{◌≡◌, ℕ, zero, suc, ◌+◌, ◌-◌, ◌<◌, ◌≤◌, min, Bool, true, false, ◌&&◌, eqb, ltb, leb, ◌⊎◌, List, [], ◌∷◌, length, take, drop, sym, refl, ap, ◌∙◌, subst, inl, inr, arith, length-drop, length-take, ltb-false, ltb-true}
+use Rattle.std.proofs.Common.{◌≡◌, ℕ, zero, suc, ◌+◌, ◌<◌, ◌≤◌, Bool, true, false, ◌&&◌, eqb, ltb, leb, List, [], ◌∷◌, length, take, drop, sym, refl, subst, arith, length-drop, length-take, ltb-false, ltb-true}
 use lib.ListN.{get_or-eq_default}
 use Rattle.form.specs.declared.expr.Expr.{Expr}
 use Rattle.form.specs.declared.expr.Expr.TheVariants.{Empty, Text, Range, Rule, Sequence, Choice, Repeat, Ahead, Absent, Node, Link, Fold, Tag}
 use Rattle.form.specs.Records.{at}
 use Rattle.form.specs.Records as records
-use Rattle.form.specs.Nullable.{Nullable, NullablePart}
+use Rattle.form.specs.Nullable.{Nullable}
 use Rattle.form.specs.Form.{Contents, Form, Laid, Fields}
 use Rattle.reading.specs.declared.answer.Reading.{Reading}
 use Rattle.reading.specs.Tree.{Tree, pick, plant, trees, bodies, body}
-use Rattle.reading.specs.Reading.{Progress, Outcome, Answer, Work, byte_at, looked, left, made, start, fits, look, spell, between, after, back_to, onward, turns, taken, take as take_in, work, close, read}
+use Rattle.reading.specs.Reading.{Progress, Outcome, Answer, Work, byte_at, looked, left, made, start, fits, look, spell, between, after, back_to, taken, take as take_in, work, close, read}
 use Rattle.reading.specs.Reading.Outcome.{deep, hit, miss}
 use Rattle.reading.specs.Reading.Answer.{too_deep, done}
 use Rattle.reading.proofs.Positions.{Stayed, PlacedIf, work_stays, read_stays}
-use Rattle.reading.proofs.Records.{planted, each_tree, rule_tree, fields_at}
+use Rattle.reading.proofs.Records.{each_tree, rule_tree, fields_at}
 
 -- the end of a match lies behind p
 abbrev Beyond : ℕ → Outcome → Type 0

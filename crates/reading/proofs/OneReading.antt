@@ -1,6 +1,5 @@
 -- The relation allows one answer, and plain reading gives it.
-use Rattle.std.proofs.Common.{◌≡◌, ℕ, zero, suc, ◌+◌, ◌≤◌, min, max, Bool, true, false, ◌⊎◌, List, [], ◌∷◌, length, sym, refl, ap, ◌∙◌, subst, inl, inr, arith}
-use Rattle.form.specs.Form.{Contents, Form}
+use Rattle.std.proofs.Common.{◌≡◌, ℕ, zero, suc, ◌+◌, ◌≤◌, min, max, Bool, true, false, List, [], ◌∷◌, length, sym, refl, ap, ◌∙◌, subst, inl, inr, arith}
 use Rattle.reading.specs.declared.answer.Reading.{Reading}
 use Rattle.reading.specs.Tree.{Tree, body, bodies}
 use Rattle.reading.specs.Reading.{Outcome, Answer, cap, depth, start, work, close, read}
@@ -8,7 +7,6 @@ use Rattle.reading.specs.Reading.Outcome.{deep, hit, miss}
 use Rattle.reading.specs.Reading.Answer.{too_deep, done}
 use Rattle.reading.specs.Semantics.{Came, Comes, Reads, Allowed, closed, reading_of}
 use Rattle.reading.specs.Semantics.Came.{matched, failed}
-use Rattle.reading.specs.Lists.{Exactly}
 use Rattle.reading.specs.ReadingLaws.{AnswersAllowed, ReadAllowed}
 use Rattle.reading.proofs.Budget.{budget}
 use Rattle.reading.proofs.Moves.{Moving, moving}

@@ -1,6 +1,5 @@
 -- A reading stays inside the input, and its height, reach and nodes stay in their limits.
-use Rattle.std.proofs.Common.{◌≡◌, ℕ, zero, suc, ◌+◌, ◌<◌, ◌≤◌, min, max, Bool, true, false, List, [], length, refl, arith}
-use Rattle.reading.specs.declared.answer.Reading.{Reading}
+use Rattle.std.proofs.Common.{ℕ, zero, suc, ◌≤◌, max, Bool, true, false, List, [], length, arith}
 use Rattle.reading.specs.Tree.{Tree, body}
 use Rattle.reading.specs.Reading.{Progress, Outcome, Answer, Work, cap, start, looked, left, made, onward, turns, taken, take, work, close, read}
 use Rattle.reading.specs.Reading.Outcome.{deep, hit, miss}

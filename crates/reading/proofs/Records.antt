@@ -1,5 +1,5 @@
 -- The tree of a record is made of the trees of its parts, and the rules that a grammar asks are its own.
-use Rattle.std.proofs.Common.{◌≡◌, ℕ, zero, suc, ◌<◌, ◌≤◌, Bool, true, false, ltb, ◌⊎◌, List, [], ◌∷◌, map, length, get_or, replicate, sym, refl, ap, ◌∙◌, subst, ap₂, inl, inr, arith, ltb-false, ltb-true}
+use Rattle.std.proofs.Common.{◌≡◌, ℕ, zero, suc, ◌<◌, ◌≤◌, Bool, true, false, ltb, List, length, get_or, replicate, sym, refl, ap, ◌∙◌, subst, ap₂, inl, inr, arith, ltb-false, ltb-true}
 use lib.ListN.{length-map, get_or-eq_default, get_or-map}
 use Rattle.form.specs.declared.expr.Expr.{Expr}
 use Rattle.form.specs.declared.expr.Expr.TheVariants.{Empty, Text, Range, Rule, Sequence, Choice, Repeat, Ahead, Absent, Node, Link, Fold, Tag}
@@ -9,7 +9,7 @@ use Rattle.form.specs.Form.{Contents, Laid, Fields}
 use Rattle.form.specs.Tables.{record_table}
 use Rattle.form.proofs.Filled.{Local, table_length, table_at, filled_all}
 use Rattle.reading.specs.Tree.{Tree, pick, plant, trees, bodies, body, Asks, Closed}
-use Rattle.reading.specs.Tree.Tree.{empty, text, range, rule, sequence, choice, repeat, ahead, absent, node, link, fold, tag}
+use Rattle.reading.specs.Tree.Tree.{range, sequence, choice, repeat, ahead, absent, node, link, fold}
 
 local : (txt : List ℕ) → Local (range 0 0) (plant txt)
 local txt t u k n Empty l h = refl

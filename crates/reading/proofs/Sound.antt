@@ -1,15 +1,15 @@
 -- What plain reading comes to, the relation derives.
-use Rattle.std.proofs.Common.{◌≡◌, ℕ, zero, suc, ◌+◌, ◌-◌, ◌<◌, ◌≤◌, min, max, Bool, true, false, ◌&&◌, eqb, ltb, leb, ◌⊎◌, List, [], ◌∷◌, length, Some, None, Option, sym, refl, ap, ◌∙◌, subst, inl, inr, arith}
+use Rattle.std.proofs.Common.{◌≡◌, ℕ, zero, suc, ◌+◌, ◌-◌, ◌<◌, ◌≤◌, min, max, Bool, true, false, ◌&&◌, eqb, ltb, leb, List, [], ◌∷◌, length, Some, None, Option, sym, refl, ap, ◌∙◌, subst, arith}
 use Rattle.std.proofs.lemmas.Bool.{eqb-true, eqb-false, leb-true, le-leb, lt-ltb, both_ways, and_parts, and_from}
 use Rattle.reading.specs.declared.answer.Reading.{Reading}
 use Rattle.reading.specs.Tree.{Tree, body}
 use Rattle.reading.specs.Reading.{Progress, Outcome, Answer, Work, cap, byte_at, looked, left, made, start, fits, look, spell, between, after, back_to, onward, turns, taken, take, work, close, read}
 use Rattle.reading.specs.Reading.Outcome.{deep, hit, miss}
 use Rattle.reading.specs.Reading.Answer.{too_deep, done}
-use Rattle.reading.specs.Semantics.{Came, Comes, behind, closed}
+use Rattle.reading.specs.Semantics.{Came, Comes, behind}
 use Rattle.reading.specs.Semantics.Came.{matched, failed}
-use Rattle.reading.proofs.Positions.{Stayed, PlacedIf, work_stays, read_stays}
-use Rattle.reading.proofs.Moves.{Moves, Moving}
+use Rattle.reading.proofs.Positions.{Stayed, work_stays, read_stays}
+use Rattle.reading.proofs.Moves.{Moving}
 
 -- the progress u behind s, where a part had this height, looked so far and made so many nodes
 pub record Grown (s u : Progress) (h l n : ℕ) : Type 0 where

@@ -1,13 +1,12 @@
 -- A pair that is visited was reached by a rule that the expression asks, inside the input.
-use Rattle.std.proofs.Common.{◌≡◌, ℕ, zero, suc, ◌+◌, ◌-◌, ◌<◌, ◌≤◌, Bool, true, false, ltb, ◌⊎◌, List, [], ◌∷◌, ◌++◌, length, sym, refl, ap, ◌∙◌, subst, inl, inr, arith}
-use Rattle.reading.specs.declared.answer.Reading.{Reading}
-use Rattle.reading.specs.Tree.{Tree, body, Asks, Closed}
+use Rattle.std.proofs.Common.{◌≡◌, ℕ, zero, suc, ◌-◌, ◌≤◌, Bool, true, false, ltb, ◌⊎◌, List, [], ◌∷◌, ◌++◌, length, refl, inl, inr}
+use Rattle.reading.specs.Tree.{Tree, Asks}
 use Rattle.reading.specs.Tree.Tree.{empty, text, range, rule, sequence, choice, repeat, ahead, absent, node, link, fold, tag}
-use Rattle.reading.specs.Reading.{Progress, Outcome, Answer, Work, left, made, start, after, back_to, onward, turns, take, taken, work, close, read}
+use Rattle.reading.specs.Reading.{Progress, Outcome, Answer, Work, left, made, after, back_to, onward, turns, take, work}
 use Rattle.reading.specs.Reading.Outcome.{deep, hit, miss}
 use Rattle.reading.specs.Reading.Answer.{too_deep, done}
 use Rattle.reading.specs.Lists.{In}
-use Rattle.reading.specs.Reached.{Pair, Visits, visited_after, visited_back_at, visited_onward, visited_in_turns, visited, reached, inside}
+use Rattle.reading.specs.Reached.{Pair, Visits, visited_after, visited_back_at, visited_onward, visited_in_turns, visited}
 use Rattle.reading.proofs.Positions.{Stayed, PlacedIf, work_stays}
 
 pub in_left : (x : Pair) (xs ys : List Pair) → In x xs → In x (xs ++ ys)

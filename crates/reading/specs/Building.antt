@@ -5,7 +5,7 @@ use Rattle.std.specs.Prelude.{ℕ, zero, suc, ◌+◌, ◌-◌, Bool, true, fals
 use Rattle.reading.specs.declared.node.Node.{Node}
 use Rattle.reading.specs.Tree.{Tree, body}
 use Rattle.reading.specs.Tree.Tree.{empty, text, range, rule, sequence, choice, repeat, ahead, absent, node, link, fold, tag}
-use Rattle.reading.specs.Reading.{Progress, Outcome, Answer, work, start, read, depth}
+use Rattle.reading.specs.Reading.{Outcome, Answer, work, start, read, depth}
 use Rattle.reading.specs.Reading.Outcome.{deep, hit, miss}
 
 -- the number that names no node

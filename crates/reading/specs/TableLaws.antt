@@ -2,7 +2,7 @@
 -- Link: a number that is none or a node. SoundNode, Sound: nodes inside what was read, with links in order.
 -- Followed: building along a match. Table: the table of a reading.
 -- Folded, Linked: what a fold and a link make of the table. FoldsKept, LinksKept, TagsKept: that they do, whatever their parts are.
-use Rattle.std.specs.Prelude.{◌≡◌, ℕ, ◌+◌, ◌<◌, ◌≤◌, min, Bool, true, ◌⊎◌, List, length, ◌≢◌}
+use Rattle.std.specs.Prelude.{◌≡◌, ℕ, ◌+◌, ◌<◌, ◌≤◌, min, true, ◌⊎◌, List, length, ◌≢◌}
 use Rattle.std.specs.List.{AllByRecursion as All}
 use Rattle.reading.specs.declared.answer.Reading.{Reading}
 use Rattle.reading.specs.declared.node.Node.{Node}

@@ -1,7 +1,6 @@
 -- Question: a grammar file, and what is asked of it.
 -- answer: what the definitions answer, as numbers. worked: questions with the answers that are expected.
-use Rattle.std.specs.Prelude.{◌≡◌, ℕ, ◌+◌, Bool, true, false, List, [], ◌∷◌, ◌++◌, map, length, Ok, Err, Result}
-use Rattle.form.specs.declared.expr.Expr.{Expr}
+use Rattle.std.specs.Prelude.{◌≡◌, ℕ, Bool, true, false, List, [], ◌∷◌, ◌++◌, map, Ok, Err, Result}
 use Rattle.form.specs.declared.expr.Expr.TheVariants.{Empty, Text, Range, Rule, Sequence, Repeat, Node, Link, Fold, Tag}
 use Rattle.form.specs.declared.fault.Fault.{Fault}
 use Rattle.form.specs.Faults.{number, section_number}

@@ -6,8 +6,8 @@ use Rattle.form.proofs.Turns.{filled_turn}
 use Rattle.nesting.proofs.Most.{deepest_fits}
 use Rattle.nesting.proofs.+nest.Goals as goal
 
-pub overflow-add-table : goal.overflow-add-table
-overflow-add-table t c =
+pub overflow_add-table : goal.overflow_add-table
+overflow_add-table t c =
     let most = deepest_fits c.args.exprs.now (c.args.number + 1) _ _ (parts (at c.args.exprs.now c.args.number)) c.requires c.nest.ensures in
     omega arith
 

@@ -8,5 +8,5 @@ use Rattle.nesting.proofs.nesting_table.Goals as goal
 pub returns : goal.returns
 unfolding record_table
 returns c =
-    let start = c.in-ok-table.ensures.items-if-clones-equal (λ y e. e) in
+    let start = c.in_ok-table.ensures.items_if_clones_equal (λ y e. e) in
     search (rules, with_items_is, sub-zero)

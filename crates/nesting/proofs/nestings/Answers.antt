@@ -6,6 +6,6 @@ use Rattle.nesting.proofs.nestings.Goals as goal
 
 pub returns : goal.returns
 returns c = record {
-  is = c.nesting-table.ensures;
-  tells = IfOk-weaker c.nesting-table.result _ _ (λ v. tells_nesting c.args.exprs.now (vec_items v)) c.nesting-table.ensures;
+  is = c.nesting_table.ensures;
+  tells = IfOk-weaker c.nesting_table.result _ _ (λ v. tells_nesting c.args.exprs.now (vec_items v)) c.nesting_table.ensures;
 }

@@ -6,6 +6,6 @@ use Rattle.analysis.proofs.marks.heads.Goals as goal
 
 pub returns : goal.returns
 returns c = record {
-  is = c.head-marks.ensures;
-  tells = IfOk-weaker c.head-marks.result _ _ (λ v. marks_heads c.args.exprs.now c.args.rules.now c.args.number (vec_items v)) c.head-marks.ensures;
+  is = c.head_marks.ensures;
+  tells = IfOk-weaker c.head_marks.result _ _ (λ v. marks_heads c.args.exprs.now c.args.rules.now c.args.number (vec_items v)) c.head_marks.ensures;
 }

@@ -6,6 +6,6 @@ use Rattle.analysis.proofs.marks.is_left_recursive.Goals as goal
 
 pub returns : goal.returns
 returns c =
-    let start = c.mark-only.ensures ∙ ap (λ n. only n c.args.rule) c.requires.sized.0 in
+    let start = c.mark_only.ensures ∙ ap (λ n. only n c.args.rule) c.requires.sized.0 in
     let table = settled_as _ _ c.args.exprs.now c.args.rules.now _ _ _ c.settle.ensures (ap has_head c.requires.nullable) start in
-    c.is-marked-at.ensures ∙ ap₂ marked table c.body-of.ensures
+    c.is_marked_at.ensures ∙ ap₂ marked table c.body_of.ensures

@@ -6,6 +6,6 @@ use Rattle.analysis.proofs.marks.nullable_table.Goals as goal
 
 pub returns : goal.returns
 returns c =
-    let start = c.deref-mut.ensures.value ∙ c.in-ok-marks.ensures.items-if-clones-equal (λ y e. e) in
-    let table = settled_as _ _ c.args.exprs.now c.args.rules.now _ _ _ c.settle.ensures c.whether-nullable.ensures start in
-    with_items_is c.in-ok-table.table c.settle.new.table (omega arith) ∙ table
+    let start = c.deref_mut.ensures.value ∙ c.in_ok-marks.ensures.items_if_clones_equal (λ y e. e) in
+    let table = settled_as _ _ c.args.exprs.now c.args.rules.now _ _ _ c.settle.ensures c.whether_nullable.ensures start in
+    with_items_is c.in_ok-table.table c.settle.new.table (omega arith) ∙ table

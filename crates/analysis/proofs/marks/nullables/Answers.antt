@@ -6,6 +6,6 @@ use Rattle.analysis.proofs.marks.nullables.Goals as goal
 
 pub returns : goal.returns
 returns c = record {
-  is = c.nullable-table.ensures;
-  tells = IfOk-weaker c.nullable-table.result _ _ (λ v. marks_nullable c.args.exprs.now c.args.rules.now (vec_items v)) c.nullable-table.ensures;
+  is = c.nullable_table.ensures;
+  tells = IfOk-weaker c.nullable_table.result _ _ (λ v. marks_nullable c.args.exprs.now c.args.rules.now (vec_items v)) c.nullable_table.ensures;
 }

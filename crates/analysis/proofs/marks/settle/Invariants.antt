@@ -5,4 +5,4 @@ use Rattle.analysis.specs.Entries.{asked}
 use Rattle.analysis.proofs.marks.settle.Given as goal
 
 abbrev pub invariant-loop-round : goal.invariant-loop-round
-invariant-loop-round l = l.marks ≡ turns (round (asked l.question) l.exprs l.rules) l.-round l.initial.marks
+invariant-loop-round l = l.marks ≡ turns (round (asked l.question) l.exprs l.rules) l._round l.initial.marks

@@ -12,6 +12,6 @@ pub returns : goal.returns
 returns c =
     let bs = c.args.bytes.now in
     record {
-      is = c.read-whole.ensures;
-      means = told_as contents_of (verdict bs) (Meant bs) (meant bs (all_bytes bs (λ i. omega (arith, c.type-inv.bytes i)))) c.read-whole.result c.read-whole.ensures;
+      is = c.read_whole.ensures;
+      means = told_as contents_of (verdict bs) (Meant bs) (meant bs (all_bytes bs (λ i. omega (arith, c.type_inv.bytes i)))) c.read_whole.result c.read_whole.ensures;
     }

@@ -12,6 +12,6 @@ pub returns : goal.returns
 returns c =
     let bs = c.args.bytes.now in
     record {
-      is = c.read-front.ensures;
-      means = told_as front_of (front_verdict bs) (FrontMeant bs) (front_meant bs (all_bytes bs (λ i. omega (arith, c.type-inv.bytes i)))) c.read-front.result c.read-front.ensures;
+      is = c.read_front.ensures;
+      means = told_as front_of (front_verdict bs) (FrontMeant bs) (front_meant bs (all_bytes bs (λ i. omega (arith, c.type_inv.bytes i)))) c.read_front.result c.read_front.ensures;
     }
