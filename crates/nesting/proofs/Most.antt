@@ -1,6 +1,6 @@
 -- No record is nested deeper than there are records from it on, so that one more fits.
 use Rattle.std.proofs.Common.{◌≡◌, ℕ, zero, suc, ◌+◌, ◌-◌, ◌≤◌, List, [], ◌∷◌, length, get_or, replicate, arith}
-use Rattle.std.specs.List.{AllByRecursion as All}
+use Rattle.std.specs.List.{AllByRecursion}
 use Rattle.std.proofs.lemmas.List.{get_or-replicate, length-replicate}
 use Rattle.std.proofs.ByRecursion.{All-set, All-weaker, All-from_get_or}
 use Rattle.form.specs.declared.expr.Expr.{Expr}
@@ -10,7 +10,7 @@ use Rattle.nesting.specs.Nesting.{one_more}
 
 -- every entry is at most d
 abbrev Most : ℕ → List ℕ → Type 0
-Most d t = All (λ x. x ≤ d) t
+Most d t = AllByRecursion (λ x. x ≤ d) t
 
 most_at : (d a : ℕ) (t : List ℕ) → Most d t → get_or t a 0 ≤ d
 most_at d a [] h = omega arith
