@@ -54,7 +54,7 @@ taken-tells takesNothing tells-nesting tested-sound text-beyond text-end text-lo
 text-same-full textRecord then-explains then-lifts then-tells threeAs told-as tooDeep turns-alike turns-cut
 turns-explain turns-from turns-has turns-keep turns-lift turns-rises turns-tell turns-turn turnsBuilt twoParts
 under-grew under-sound unless-none unmarked-le verdict-only visited-from visitedAfter visitedBackAt visitedInTurns
-visitedOnward whole-over wide-a wide-b wide-count wide-front wideAt withChild work-alike work-cut work-ends
+visitedOnward whole-over wide-front wideAt withChild work-alike work-cut work-ends
 work-explains work-has work-rises work-stays work-still written-long ys-length
 """
 

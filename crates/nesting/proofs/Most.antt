@@ -1,8 +1,7 @@
 -- No record is nested deeper than there are records from it on, so that one more fits.
 use Rattle.std.proofs.Common.{◌≡◌, ℕ, zero, suc, ◌+◌, ◌-◌, ◌≤◌, List, [], ◌∷◌, length, get_or, replicate, arith}
-use Rattle.std.specs.List.{AllByRecursion}
-use Rattle.std.proofs.lemmas.List.{get_or-replicate, length-replicate}
-use Rattle.std.proofs.ByRecursion.{All-set, All-weaker, All-from_get_or}
+use Rattle.std.specs.List.{All}
+use Rattle.std.proofs.lemmas.List.Elements.{All-replicate, All-set, All-tail, All-weaker}
 use Rattle.form.specs.declared.expr.Expr.{Expr}
 use Rattle.form.specs.Records.{at, parts}
 use Rattle.form.specs.Tables.{deepest, filled}
@@ -10,12 +9,12 @@ use Rattle.nesting.specs.Nesting.{one_more}
 
 -- every entry is at most d
 abbrev Most : ℕ → List ℕ → Type 0
-Most d t = AllByRecursion (λ x. x ≤ d) t
+Most d t = All (λ x. x ≤ d) t
 
 most_at : (d a : ℕ) (t : List ℕ) → Most d t → get_or t a 0 ≤ d
 most_at d a [] h = omega arith
-most_at d zero (x ∷ t) h = h.0
-most_at d (suc a) (x ∷ t) h = most_at d a t h.1
+most_at d zero (x ∷ t) h = h zero 0 (omega arith)
+most_at d (suc a) (x ∷ t) h = most_at d a t (All-tail (λ y. y ≤ d) x t h)
 
 deepest_most : (d : ℕ) (t : List ℕ) → Most d t → (ps : List ℕ) → deepest t ps ≤ d
 deepest_most d t h [] = omega arith
@@ -28,7 +27,7 @@ nesting_most es n d t h = omega (arith, deepest_most d t h (parts (at es n)))
 filled_most : (f : ℕ → List ℕ → ℕ) → ((n d : ℕ) (t : List ℕ) → Most d t → f n t ≤ d + 1)
     → (n k m : ℕ) → Most k (filled f n k (replicate m 0))
 filled_most f grows n zero m =
-    All-from_get_or (λ x. x ≤ 0) (replicate m 0) 0 (λ i lt. omega (arith, get_or-replicate {A = ℕ} m i 0 0 (rw length-replicate at lt)))
+    All-replicate (λ x. x ≤ 0) m 0 (omega arith)
 filled_most f grows n (suc k) m =
     let behind = filled_most f grows (n + 1) k m in
     All-set (λ x. x ≤ suc k) _ n _ (omega (arith, grows n k _ behind)) (All-weaker (λ x. x ≤ k) (λ x. x ≤ suc k) (λ x le. omega arith) _ behind)

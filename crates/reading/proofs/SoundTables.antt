@@ -1,7 +1,7 @@
 -- In a table that is built, every node lies inside what was read, and every link is none or a node.
 use Rattle.std.proofs.Common.{◌≡◌, ℕ, zero, suc, ◌+◌, ◌-◌, ◌≤◌, Bool, true, false, cond, eqb, ltb, List, [], ◌∷◌, ◌++◌, length, sym, refl, subst, inl, inr, arith}
-use Rattle.std.specs.List.{AllByRecursion}
-use Rattle.std.proofs.ByRecursion.{All-append, All-weaker}
+use Rattle.std.specs.List.{All}
+use Rattle.std.proofs.lemmas.List.Elements.{All-append, All-cons, All-head, All-nil, All-tail, All-weaker}
 use Rattle.reading.specs.declared.node.Node.{Node}
 use Rattle.reading.specs.Tree.{Tree, body}
 use Rattle.reading.specs.Tree.Tree.{empty, text, range, rule, sequence, choice, repeat, ahead, absent, node, link, fold, tag}
@@ -28,10 +28,10 @@ node_more n m p q l k x S = record {
 }
 
 all_alter : (P : Node → Type 0) (n : ℕ) (f : Node → Node) → ((x : Node) → P x → P (f x)) → (xs : List Node)
-    → AllByRecursion P xs → AllByRecursion P (alter n f xs)
-all_alter P n f F [] h = tt
-all_alter P zero f F (x ∷ xs) h = (F x h.0, h.1)
-all_alter P (suc n) f F (x ∷ xs) h = (h.0, all_alter P n f F xs h.1)
+    → All P xs → All P (alter n f xs)
+all_alter P n f F [] h = h
+all_alter P zero f F (x ∷ xs) h = All-cons P (f x) xs (F x (All-head P x xs h)) (All-tail P x xs h)
+all_alter P (suc n) f F (x ∷ xs) h = All-cons P x (alter n f xs) (All-head P x xs h) (all_alter P n f F xs (All-tail P x xs h))
 
 module _ (n p : ℕ) where
   tagged_sound : (t : ℕ) (x : Node) → SoundNode n p x → SoundNode n p (tagged t x)
@@ -71,11 +71,11 @@ module _ (n p : ℕ) where
   fresh_sound i l = record { forward = omega arith; ends = omega arith; up = inl refl; first = l; last = l; next = inl refl }
 
   adopt_sound : (i j : ℕ) → Link n i → Link n j → (xs : List Node)
-      → AllByRecursion (SoundNode n p) xs → AllByRecursion (SoundNode n p) (adopt i j xs)
+      → All (SoundNode n p) xs → All (SoundNode n p) (adopt i j xs)
   adopt_sound i j l m xs S = by (eqb i none) (eqb j none)
     where
       by : (u v : Bool)
-          → AllByRecursion (SoundNode n p) (cond u xs (cond v xs (alter i (with_child j) (alter (node_at xs i).last (before j) (alter j (under i) xs)))))
+          → All (SoundNode n p) (cond u xs (cond v xs (alter i (with_child j) (alter (node_at xs i).last (before j) (alter j (under i) xs)))))
       by true v = S
       by false true = S
       by false false =
@@ -118,21 +118,22 @@ begin_further child h l S = record {
   longer = omega (arith, begin_length child h);
   sound = record {
     current = inr (omega (arith, begin_length child h));
-    nodes = subst (λ (m : ℕ). AllByRecursion (SoundNode m h.position) (begin child h).table) (sym (begin_length child h)) nodes;
+    nodes = subst (λ (m : ℕ). All (SoundNode m h.position) (begin child h).table) (sym (begin_length child h)) nodes;
   };
 }
   where
     n : ℕ
     n = length h.table
 
-    more : AllByRecursion (SoundNode (suc n) h.position) h.table
+    more : All (SoundNode (suc n) h.position) h.table
     more = All-weaker (SoundNode n h.position) (SoundNode (suc n) h.position)
         (node_more n (suc n) h.position h.position (omega arith) (omega arith)) h.table S.nodes
 
-    nodes : AllByRecursion (SoundNode (suc n) h.position) (alter child (under n) h.table ++ (fresh h.position child ∷ []))
+    nodes : All (SoundNode (suc n) h.position) (alter child (under n) h.table ++ (fresh h.position child ∷ []))
     nodes = All-append (SoundNode (suc n) h.position) (alter child (under n) h.table) (fresh h.position child ∷ [])
         (all_alter (SoundNode (suc n) h.position) child (under n) (under_sound (suc n) h.position n (inr (omega arith))) h.table more)
-        (fresh_sound (suc n) h.position child (link_more n (suc n) child (omega arith) l), tt)
+        (All-cons (SoundNode (suc n) h.position) (fresh h.position child) []
+        (fresh_sound (suc n) h.position child (link_more n (suc n) child (omega arith) l)) (All-nil (SoundNode (suc n) h.position)))
 
 -- the current node is altered
 alter_further : (f : Node → Node) (h : Draft) → ((x : Node) → SoundNode (length h.table) h.position x → SoundNode (length h.table) h.position (f x))
@@ -142,7 +143,7 @@ alter_further f h F S = record {
   longer = omega (arith, same);
   sound = record {
     current = link_more (length h.table) (length (alter h.current f h.table)) h.current (omega (arith, same)) S.current;
-    nodes = subst (λ (m : ℕ). AllByRecursion (SoundNode m h.position) (alter h.current f h.table)) (sym same)
+    nodes = subst (λ (m : ℕ). All (SoundNode m h.position) (alter h.current f h.table)) (sym same)
         (all_alter (SoundNode (length h.table) h.position) h.current f F h.table S.nodes);
   };
 }
@@ -165,7 +166,7 @@ back_further old h l S = record {
   longer = omega (arith, same);
   sound = record {
     current = link_more (length h.table) (length (adopt old h.current h.table)) old (omega (arith, same)) l;
-    nodes = subst (λ (m : ℕ). AllByRecursion (SoundNode m h.position) (adopt old h.current h.table)) (sym same)
+    nodes = subst (λ (m : ℕ). All (SoundNode m h.position) (adopt old h.current h.table)) (sym same)
         (adopt_sound (length h.table) h.position old h.current l S.current h.table S.nodes);
   };
 }
@@ -233,7 +234,7 @@ grow_keeps g w zero r h S = rests h S
 grow_keeps g w (suc k) r h S = build_keeps w (read g w k) (grow g w k) (grow_keeps g w k) (body g r) h S
 
 pub blank_sound : (p : ℕ) → Sound (blank p)
-blank_sound p = record { current = inl refl; nodes = tt }
+blank_sound p = record { current = inl refl; nodes = All-nil (SoundNode 0 p) }
 
 pub build_sound : (g : List Tree) (w : List ℕ) (k : ℕ) (e : Tree) (h : Draft) → Sound h → Further h (build w (read g w k) (grow g w k) e h)
 build_sound g w k e h S = build_keeps w (read g w k) (grow g w k) (grow_keeps g w k) e h S

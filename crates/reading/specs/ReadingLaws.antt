@@ -2,8 +2,7 @@
 -- Placed: a reading stays inside the input. Budgeted: what its height says of the budgets.
 -- Inner, Insides: the pairs strictly inside a reading. InGrid, PairsAtMost: how many pairs there are.
 -- AnswersAllowed, ReadAllowed: what the relation of Semantics allows. ChoiceDecided, RepeatEnds: what users know of choice and repeat.
-use Rattle.std.specs.Prelude.{◌≡◌, ℕ, suc, ◌<◌, ◌≤◌, Bool, true, false, List, length}
-use Rattle.std.specs.List.{AllByRecursion}
+use Rattle.std.specs.Prelude.{◌≡◌, ℕ, suc, ◌<◌, ◌≤◌, Bool, true, false, List, length, All}
 use Rattle.form.specs.declared.expr.Expr.TheVariants.{Repeat}
 use Rattle.form.specs.Records.{at}
 use Rattle.form.specs.Form.{Contents, Form}
@@ -53,7 +52,7 @@ InGrid m n x = (x.0 < m) × (x.1 ≤ n)
 -- however many readings of a grammar of m rules there are on an input of n bytes
 abbrev pub PairsAtMost : ℕ → ℕ → ℕ → Type 0
 PairsAtMost m n limit = (c : Contents) → Form c → length c.rules ≡ m → (w : List ℕ) → length w ≡ n → (xs : List Pair)
-    → AllByRecursion (InGrid m n) xs → AllByRecursion (InGrid m n) (reached_from (bodies c) w xs) × (different (reached_from (bodies c) w xs) ≤ limit)
+    → All (InGrid m n) xs → All (InGrid m n) (reached_from (bodies c) w xs) × (different (reached_from (bodies c) w xs) ≤ limit)
 
 -- for a rule of a grammar at a position of an input the relation allows n answers
 abbrev pub AnswersAllowed : ℕ → Type 0

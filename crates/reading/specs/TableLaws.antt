@@ -2,8 +2,7 @@
 -- Link: a number that is none or a node. SoundNode, Sound: nodes inside what was read, with links in order.
 -- Followed: building along a match. Table: the table of a reading.
 -- Folded, Linked: what a fold and a link make of the table. FoldsKept, LinksKept, TagsKept: that they do, whatever their parts are.
-use Rattle.std.specs.Prelude.{◌≡◌, ℕ, ◌+◌, ◌<◌, ◌≤◌, min, true, ◌⊎◌, List, length, ◌≢◌}
-use Rattle.std.specs.List.{AllByRecursion}
+use Rattle.std.specs.Prelude.{◌≡◌, ℕ, ◌+◌, ◌<◌, ◌≤◌, min, true, ◌⊎◌, List, length, ◌≢◌, All}
 use Rattle.reading.specs.declared.answer.Reading.{Reading}
 use Rattle.reading.specs.declared.node.Node.{Node}
 use Rattle.reading.specs.Tree.{Tree}
@@ -27,7 +26,7 @@ pub record SoundNode (n p : ℕ) (x : Node) : Type 0 where
 
 pub record Sound (h : Draft) : Type 0 where
   pub current : Link (length h.table) h.current
-  pub nodes : AllByRecursion (SoundNode (length h.table) h.position) h.table
+  pub nodes : All (SoundNode (length h.table) h.position) h.table
 
 -- from the draft h to the draft h', along a match that ended at q; n nodes were counted before, m after
 pub record Followed (q n m : ℕ) (h h' : Draft) : Type 0 where
@@ -41,7 +40,7 @@ pub record Table (n : ℕ) (d : Reading) (h : Draft) : Type 0 where
   pub came : h.position ≡ d.end
   pub count : length h.table ≡ d.nodes
   pub root : Link d.nodes h.current
-  pub nodes : AllByRecursion (SoundNode d.nodes n) h.table
+  pub nodes : All (SoundNode d.nodes n) h.table
 
 -- a match with fewer nodes than are counted has such a table
 abbrev pub Tabled : Reading → Type 0
