@@ -1,5 +1,6 @@
 -- A file is accepted exactly when it has the form, and a fault that tables told is one in words.
-use Rattle.std.proofs.Common.{◌≡◌, ℕ, zero, suc, ◌+◌, ◌-◌, ◌*◌, ◌<◌, Bool, true, ◌||◌, eqb, ltb, List, [], ◌∷◌, ◌++◌, length, get_or, take, drop, Some, None, Ok, Err, Option, Result, sym, refl, ap, ◌∙◌, subst, arith, length-append}
+use Rattle.std.proofs.Common.{◌≡◌, ℕ, zero, suc, ◌+◌, ◌-◌, ◌*◌, ◌<◌, Bool, true, ◌||◌, eqb, ltb, List, [], ◌∷◌, ◌++◌, length, get_or, take, drop, Some, None, Ok, Err, Option, Result}
+use Rattle.std.proofs.Common.{sym, refl, ap, ◌∙◌, subst, arith, length-append}
 use Rattle.std.proofs.lemmas.List.{append-nil, take_at}
 use Rattle.std.proofs.lemmas.Bool.{lt-ltb, cond-true}
 use Rattle.form.specs.declared.expr.Counts.{Counts}
@@ -16,7 +17,8 @@ use Rattle.form.specs.Heads.{LeftRecursive}
 use Rattle.form.specs.Nesting.{TooDeep}
 use Rattle.form.specs.Form.{Contents, Laid, Form}
 use Rattle.form.specs.Bytes.{encode, AllBytes}
-use Rattle.form.specs.Verdict.{piece, Layout, layout, ended, wide_at, allow, is_part, one_part, expression, record_at, body_at, each, counts, unless, lawful, first_too_deep, first_nullable_repeat, first_left_recursive, contents, verdict, front_verdict}
+use Rattle.form.specs.Verdict.{piece, Layout, layout, ended, wide_at, allow, is_part, one_part, expression, record_at, body_at, each, counts}
+use Rattle.form.specs.Verdict.{unless, lawful, first_too_deep, first_nullable_repeat, first_left_recursive, contents, verdict, front_verdict}
 use Rattle.form.specs.Meaning.{Found, Explained, Meant, FrontMeant}
 use Rattle.form.proofs.Yields.{ok_is, err_ok, then_ok, then_is, Only, only_cond, only_then, only_ok, only_err}
 use Rattle.form.proofs.Lowest.{deep_found, repeats_found, recursion_found}
