@@ -1,25 +1,13 @@
--- asked: the test of a record that a question stands for.
 -- settled_records: the records for which a test holds, once as many rounds as there are rules have marked rules.
--- What stands at one number of a table:
--- answers: the answer to a question for a record, by the answers for later ones.
 -- joins: whether a round marks a rule, by the rules that are marked and the records that are.
 -- is_head: whether a rule is a head of a record.
 use Rattle.std.specs.Prelude.{ℕ, Bool, ◌||◌, List, length}
 use Rattle.form.specs.declared.expr.Expr.{Expr}
-use Rattle.form.specs.Records.{at, body}
-use Rattle.form.specs.Tables.{Test, marked, only, takes_nothing, has_head, tested, settled, headed}
-use Rattle.analysis.specs.declared.marks.Question.{Question}
-use Rattle.analysis.specs.declared.marks.Question.TheVariants.{TakesNothing, HasHead}
-
-abbrev pub asked : Question → Test
-asked TakesNothing = takes_nothing
-asked (HasHead m) = has_head m.now
+use Rattle.form.specs.Records.{body}
+use Rattle.form.specs.Tables.{Test, marked, only, tested, settled, headed}
 
 abbrev pub settled_records : Test → List Expr → List ℕ → List Bool → List Bool
 settled_records by es rs v = tested by es (settled by es rs v)
-
-abbrev pub answers : Question → List Expr → List Bool → ℕ → List Bool → Bool
-answers q es v e t = asked q v t (at es e)
 
 abbrev pub joins : List Expr → List ℕ → List Bool → ℕ → List Bool → Bool
 joins es rs t r v = marked v r || marked t (body es rs r)

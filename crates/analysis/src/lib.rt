@@ -1,4 +1,165 @@
 // What the records of a grammar come to: which may take nothing, which rules are heads of them, and which rules are left recursive.
 #![tactic(auto)]
 
-pub mod marks;
+ghost use Rattle.std.specs.Prelude.{◌≡◌, ◌<◌, length, IfOk, IfSome};
+ghost use Rattle.form.specs.Tables.{nullables, repeats_marked, left_recursive};
+ghost use Rattle.form.specs.Verdict.{first_nullable_repeat, first_left_recursive};
+ghost use Rattle.analysis.specs.Entries.{is_head};
+ghost use Rattle.analysis.specs.Tells.{MarksNullable, MarkedBy, HeadMarks, MarksHeads};
+
+mod question;
+mod settle;
+
+use form::expr::Expr;
+use form::rules::Rules;
+use question::{HasHead, TakesNothing, is_marked};
+use settle::{answer_all, mark_only, settle};
+use std::alloc::{AllocError, Global};
+
+// Whether an expression is a repeat of a marked record.
+fn repeats_marked(x: Expr, table: &[bool]) -> bool
+    ensures { result ≡ repeats_marked table.now x }
+{
+    matches!(x, Expr::Repeat { part } if is_marked(table, usize::from(part)))
+}
+
+// A grammar's rules, and what every question about heads needs of them: which records may take nothing.
+#[derive(Drop)]
+pub struct Analysis<'a> {
+    pub rules: Rules<'a>,
+    // by record number
+    pub nullable: Vec<bool>,
+    ghost is_nullable: { nullable.items ≡ nullables rules.exprs.now rules.bodies.now },
+}
+
+impl<'a> Analysis<'a> {
+    // Works out which records may take nothing. In records whose parts stand behind them, as a grammar's do, the marks say
+    // exactly which are nullable.
+    pub fn new(heap: Global, rules: Rules<'a>) -> Result<Analysis<'a>, AllocError>
+        ensures of { IfOk result (λ a. a.rules ≡ rules.entry) }
+        ensures is { IfOk result (λ a. a.nullable.items ≡ nullables rules.entry.exprs.now rules.entry.bodies.now) }
+        ensures tells { IfOk result (λ a. MarksNullable rules.entry.exprs.now rules.entry.bodies.now a.nullable.items) }
+    {
+        let marks = vec![in heap; false; rules.bodies.len()]?;
+        let nullable = settle(heap, &TakesNothing, &rules, marks)?;
+        Ok(Analysis { rules, nullable })
+    }
+
+    // The question which records have a marked rule as a head.
+    fn has_head(&self) -> HasHead<'_>
+        ensures { result.nullable.now ≡ self.now.nullable.items }
+    {
+        HasHead {
+            nullable: &self.nullable,
+        }
+    }
+
+    // Whether a rule is a head of a record.
+    fn is_head(&self, heap: Global, number: usize, rule: usize) -> Result<bool, AllocError>
+        requires { rule < length self.now.rules.bodies.now }
+        ensures { IfOk result (λ b. b ≡ is_head self.now.rules.exprs.now self.now.rules.bodies.now number rule) }
+    {
+        let marks = mark_only(heap, self.rules.bodies.len(), rule)?;
+        let table = answer_all(heap, &self.has_head(), self.rules.exprs, &marks)?;
+        Ok(is_marked(&table, number))
+    }
+
+    // By rule number, which rules are heads of a record; a number past the records has none.
+    pub fn heads(&self, heap: Global, number: usize) -> Result<Vec<bool>, AllocError>
+        ensures is { IfOk result (λ v. HeadMarks self.now.rules.exprs.now self.now.rules.bodies.now number v.items) }
+        ensures tells { IfOk result (λ v. MarksHeads self.now.rules.exprs.now self.now.rules.bodies.now number v.items) }
+    {
+        (0..self.rules.bodies.len())
+            .map(|rule| self.is_head(heap, number, rule))
+            .try_collect(heap)
+    }
+
+    // The first repeat of what may take nothing.
+    pub fn first_nullable_repeat(&self) -> Option<usize>
+        ensures is { result ≡ first_nullable_repeat self.now.rules.exprs.now self.now.rules.bodies.now }
+        ensures within { IfSome result (λ k. k < length self.now.rules.exprs.now) }
+    {
+        self.rules
+            .exprs
+            .iter()
+            .position(|&x| repeats_marked(x, &self.nullable))
+    }
+
+    // Whether a rule can come back to itself with no byte taken. Beside `is_head` this settles the marks: one function of both, by a
+    // number of rounds, is no plainer.
+    fn is_left_recursive(&self, heap: Global, rule: usize) -> Result<bool, AllocError>
+        requires { rule < length self.now.rules.bodies.now }
+        ensures { IfOk result (λ b. b ≡ left_recursive self.now.rules.exprs.now self.now.rules.bodies.now rule) }
+    {
+        let marks = mark_only(heap, self.rules.bodies.len(), rule)?;
+        let table = settle(heap, &self.has_head(), &self.rules, marks)?;
+        Ok(is_marked(&table, self.rules.body(rule)))
+    }
+
+    // By rule number, which rules can come back to themselves with no byte taken.
+    fn left_recursive(&self, heap: Global) -> Result<Vec<bool>, AllocError>
+        ensures { IfOk result (λ v. MarkedBy (left_recursive self.now.rules.exprs.now self.now.rules.bodies.now) (length self.now.rules.bodies.now) v.items) }
+    {
+        (0..self.rules.bodies.len())
+            .map(|rule| self.is_left_recursive(heap, rule))
+            .try_collect(heap)
+    }
+
+    // The first rule that can come back to itself with no byte taken.
+    pub fn first_left_recursive(&self, heap: Global) -> Result<Option<usize>, AllocError>
+        ensures is { IfOk result (λ o. o ≡ first_left_recursive self.now.rules.exprs.now self.now.rules.bodies.now) }
+        ensures within { IfOk result (λ o. IfSome o (λ r. r < length self.now.rules.bodies.now)) }
+    {
+        let recursive = self.left_recursive(heap)?;
+        Ok(recursive.iter().position(|&is| is))
+    }
+}
+
+#[cfg(test)]
+mod tests {
+    use super::*;
+    use std::test::Fail;
+
+    // Rule 0 is rule 1 or itself behind nothing, and rule 1 a byte: so rule 0 has both as heads, and comes back to itself.
+    #[test]
+    fn finds_heads_and_left_recursion(rt: HostRuntime) -> Result<(), Fail> {
+        let exprs = [
+            Expr::Choice {
+                first: 1,
+                second: 2,
+            },
+            Expr::Rule { rule: 1 },
+            Expr::Sequence {
+                first: 3,
+                second: 4,
+            },
+            Expr::Repeat { part: 5 },
+            Expr::Rule { rule: 0 },
+            Expr::Range { low: 0, high: 255 },
+        ];
+        let rules = Rules {
+            exprs: &exprs,
+            bodies: &[0, 5],
+        };
+        let analysis = Analysis::new(rt.alloc(), rules)?;
+        let nullable = [false, false, false, true, false, false];
+        assert_eq!(rt; analysis.nullable.as_slice(), nullable.as_slice());
+        assert_eq!(rt; analysis.first_nullable_repeat(), None);
+        let heads = analysis.heads(rt.alloc(), 0)?;
+        assert_eq!(rt; heads.as_slice(), [true, true].as_slice());
+        assert_eq!(rt; analysis.first_left_recursive(rt.alloc())?, Some(0));
+        Ok(())
+    }
+
+    // A repeat of a tag takes nothing for ever.
+    #[test]
+    fn finds_a_nullable_repeat(rt: HostRuntime) -> Result<(), Fail> {
+        let rules = Rules {
+            exprs: &[Expr::Repeat { part: 1 }, Expr::Tag { tag: 7 }],
+            bodies: &[0],
+        };
+        let analysis = Analysis::new(rt.alloc(), rules)?;
+        assert_eq!(rt; analysis.first_nullable_repeat(), Some(0));
+        Ok(())
+    }
+}

@@ -4,40 +4,34 @@
 mod records;
 mod rules;
 
-use anyhow::anyhow;
-use form::fault::Fault;
 use grammar::error::CheckError;
 use grammar::grammar::Grammar;
 use records::print_records;
 use rules::print_rules;
+use std::alloc::Global;
 use std::io::Read;
 
-// The fault's number, its section's, and the lowest record or rule at fault.
-fn print_fault(rt: &HostRuntime, fault: Fault) -> anyhow::Result<()> {
-    let number = fault.kind.number();
-    let section = fault.section.number();
-    let index = fault.index;
-    println!(rt; "book {number} {section} {index}")?;
+// How much of everything there is, then each rule, then each record.
+fn print_grammar(rt: &impl Print, heap: Global, grammar: &Grammar) -> anyhow::Result<()> {
+    println!(rt;
+        "grammar: {} bytes of text, {} records, {} rules",
+        grammar.text.len(),
+        grammar.exprs.len(),
+        grammar.rules.len()
+    )?;
+    print_rules(rt, heap, grammar)?;
+    print_records(rt, grammar)?;
     Ok(())
 }
 
-// How much of everything there is, then each rule, then each record.
-fn print_grammar(rt: &HostRuntime, grammar: &Grammar) -> anyhow::Result<()> {
-    let text = grammar.text.len();
-    let records = grammar.exprs.len();
-    let rules = grammar.rules.len();
-    println!(rt; "grammar: {text} bytes of text, {records} records, {rules} rules")?;
-    print_rules(rt, &grammar.exprs, &grammar.rules)?;
-    print_records(rt, &grammar.exprs, &grammar.text)
-}
-
 fn run(rt: &HostRuntime) -> anyhow::Result<()> {
-    let mut input = Vec::new(rt.alloc());
+    let heap = rt.alloc();
+    let mut input = Vec::new(heap);
     rt.stdin().read_to_end(&mut input)?;
-    match Grammar::check(rt.alloc(), &input) {
-        Ok(grammar) => print_grammar(rt, &grammar),
-        Err(CheckError::Faulty(fault)) => print_fault(rt, fault),
-        Err(CheckError::OutOfMemory) => Err(anyhow!("out of memory")),
+    match Grammar::check(heap, &input) {
+        Ok(grammar) => print_grammar(rt, heap, &grammar),
+        Err(CheckError::Faulty(fault)) => Ok(println!(rt; "{fault}")?),
+        Err(error) => Err(error.into()),
     }
 }
 

@@ -1,37 +1,44 @@
-use analysis::marks::{heads, nullables};
-use form::expr::Expr;
+use analysis::Analysis;
+use grammar::grammar::Grammar;
 use nesting::nestings;
+use std::alloc::Global;
+use std::fmt;
 
-// The numbers of the rules that are marked, or `none`.
-fn print_marked(rt: &HostRuntime, marks: &[bool]) -> anyhow::Result<()> {
-    let mut any = false;
-    for (number, marked) in marks.iter().enumerate() {
-        if *marked {
-            print!(rt; " {number}")?;
-            any = true;
+// The numbers that are marked, each behind a space, or `none`.
+#[derive(Clone, Copy)]
+struct Marked<'a>(&'a [bool]);
+
+impl fmt::Display for Marked<'_> {
+    fn fmt<W: fmt::Write>(&self, f: &mut fmt::Formatter<W>) -> fmt::Result {
+        if !self.0.contains(&true) {
+            return f.write_str(" none");
         }
+        for (number, marked) in self.0.iter().enumerate() {
+            if *marked {
+                write!(f, " {number}")?;
+            }
+        }
+        Ok(())
     }
-    if !any {
-        print!(rt; " none")?;
-    }
-    Ok(())
 }
 
 // Each rule: its body, how deep that is nested, whether it may take nothing, and the rules it can ask first.
-pub(crate) fn print_rules(rt: &HostRuntime, exprs: &[Expr], rules: &[u16]) -> anyhow::Result<()> {
-    let nullable = nullables(rt.alloc(), exprs, rules)?;
-    let nested = nestings(rt.alloc(), exprs)?;
-    for (number, rule) in rules.iter().enumerate() {
-        let body = *rule as usize;
-        let nesting = nested.get(body).copied().unwrap_or(0);
-        let taken = if nullable.get(body).copied().unwrap_or(false) {
+pub(crate) fn print_rules(rt: &impl Print, heap: Global, grammar: &Grammar) -> anyhow::Result<()> {
+    let analysis = Analysis::new(heap, grammar.rules())?;
+    let nestings = nestings(heap, &grammar.exprs)?;
+    for (number, body) in grammar.rules.iter().enumerate() {
+        let body = usize::from(*body);
+        let nesting = nestings.get(body).copied().unwrap_or(0);
+        let taken = if analysis.nullable.get(body) == Some(&true) {
             "may take nothing"
         } else {
             "takes a byte"
         };
-        print!(rt; "rule {number}: record {body}, nesting {nesting}, {taken}, heads")?;
-        print_marked(rt, &heads(rt.alloc(), exprs, rules, body)?)?;
-        println!(rt; "")?;
+        let heads = analysis.heads(heap, body)?;
+        println!(rt;
+            "rule {number}: record {body}, nesting {nesting}, {taken}, heads{}",
+            Marked(&heads)
+        )?;
     }
     Ok(())
 }

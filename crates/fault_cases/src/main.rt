@@ -10,7 +10,8 @@ use grammar::error::CheckError;
 use grammar::grammar::Grammar;
 use std::alloc::{AllocError, Global};
 
-// What a digit in base 16 counts; another sign counts nothing.
+// What a digit in base 16 counts; another sign counts nothing. The library's `to_digit` counts capitals too, and would need a
+// test for them before it.
 fn digit(sign: u8) -> u8
     ensures { result < 16 }
 {
@@ -53,49 +54,32 @@ fn read_file(heap: Global, runs: &str) -> Result<Vec<u8>, AllocError> {
     Ok(out)
 }
 
-// An error of the check: a fault as `bookcheck` prints it. Want of memory is passed on.
-fn told_error(heap: Global, error: CheckError) -> Result<String, AllocError> {
-    match error {
-        CheckError::Faulty(fault) => {
-            let number = fault.kind.number();
-            let section = fault.section.number();
-            let index = fault.index;
-            format!(in heap; "book {number} {section} {index}")
-        }
-        CheckError::OutOfMemory => Err(AllocError),
-    }
-}
-
-// What the check tells of a whole file: that it is accepted, or its fault.
-fn told(heap: Global, bytes: &[u8]) -> Result<String, AllocError> {
-    match Grammar::check(heap, bytes) {
-        Ok(_) => String::from_str(heap, "accepted"),
-        Err(error) => told_error(heap, error),
-    }
-}
-
-// What the check tells of a grammar at the front of the bytes: where it ends, or its fault.
-fn told_front(heap: Global, bytes: &[u8]) -> Result<String, AllocError> {
-    match Grammar::check_front(heap, bytes) {
-        Ok((_, end)) => format!(in heap; "ends at {end}"),
-        Err(error) => told_error(heap, error),
-    }
+// What the check tells of a file: that it is accepted, or where the grammar at its front ends, or its fault.
+fn told(heap: Global, front: bool, file: &[u8]) -> anyhow::Result<String> {
+    let checked = if front {
+        Grammar::check_front(heap, file).map(|(_, end)| Some(end))
+    } else {
+        Grammar::check(heap, file).map(|_| None)
+    };
+    let text = match checked {
+        Ok(None) => format!(in heap; "accepted")?,
+        Ok(Some(end)) => format!(in heap; "ends at {end}")?,
+        Err(CheckError::Faulty(fault)) => format!(in heap; "{fault}")?,
+        Err(error) => return Err(error.into()),
+    };
+    Ok(text)
 }
 
 // One line of the table: prints the case and what the check tells of it, and says whether that was expected.
-fn run_case(rt: &HostRuntime, line: &str) -> anyhow::Result<bool> {
+fn run_case(rt: &impl Print, heap: Global, line: &str) -> anyhow::Result<bool> {
     let Some((expected, rest)) = line.split_once(" | ") else {
         return Err(anyhow!("a line with no name"));
     };
     let Some((name, runs)) = rest.split_once(" |") else {
         return Err(anyhow!("a line with no bytes"));
     };
-    let file = read_file(rt.alloc(), runs)?;
-    let answer = if name.starts_with("front") {
-        told_front(rt.alloc(), &file)?
-    } else {
-        told(rt.alloc(), &file)?
-    };
+    let file = read_file(heap, runs)?;
+    let answer = told(heap, name.starts_with("front"), &file)?;
     let right = answer.as_str() == expected;
     let mark = if right { "ok" } else { "NOT AS EXPECTED" };
     println!(rt; "{mark} {name}: {answer}")?;
@@ -103,13 +87,14 @@ fn run_case(rt: &HostRuntime, line: &str) -> anyhow::Result<bool> {
 }
 
 fn run(rt: &HostRuntime) -> anyhow::Result<()> {
+    let heap = rt.alloc();
     let mut cases = 0u32;
     let mut right = 0u32;
-    for line in rt.lines(rt.alloc()) {
+    for line in rt.lines(heap) {
         let line = line?;
         if !line.as_str().starts_with('#') {
             cases = cases.saturating_add(1);
-            if run_case(rt, line.as_str())? {
+            if run_case(rt, heap, line.as_str())? {
                 right = right.saturating_add(1);
             }
         }

@@ -41,6 +41,26 @@ module _ {A : Type 0} (d : A) (f : ℕ → List A → A) where
             )
       ]
 
+  -- entries before the first that is worked out stay
+  filled_before : (n k : ℕ) (t : List A) (e : ℕ) → e < n → get_or (filled f n k t) e d ≡ get_or t e d
+  filled_before n zero t e l = refl
+  filled_before n (suc k) t e l =
+      let ne : e ≢ n = omega arith in
+      get_or-set_other (filled f (n + 1) k t) n e _ d ne ∙ filled_before (n + 1) k t e (omega arith)
+
+  -- where an entry comes from what stood in its own place, each is worked out from the table at first
+  pub filled_own : ((n : ℕ) (t u : List A) → get_or t n d ≡ get_or u n d → f n t ≡ f n u)
+      → (n k : ℕ) (t : List A) (e : ℕ) → n ≤ e → e < n + k → n + k ≤ length t → get_or (filled f n k t) e d ≡ f e t
+  filled_own own n zero t e low high fits = absurd (omega arith)
+  filled_own own n (suc k) t e low high fits =
+      let u : List A = filled f (n + 1) k t in
+      elim (cases_eq e n) [
+        | inl same ↦
+            let l : n < length u = omega (arith, filled_length (n + 1) k t) in
+            rw same (get_or-set_same u n (f n u) d l ∙ own n u t (filled_before (n + 1) k t n (omega arith)))
+        | inr ne ↦ get_or-set_other u n e (f n u) d ne ∙ filled_own own (n + 1) k t e (omega arith) (omega arith) (omega arith)
+      ]
+
   -- what each entry has at first, and each that is worked out, each has in the end
   pub filled_all : (P : ℕ → A → Type 0) → ((n : ℕ) (t : List A) → ((j : ℕ) → P j (get_or t j d)) → P n (f n t))
       → (n k : ℕ) (t : List A) → ((j : ℕ) → P j (get_or t j d)) → (j : ℕ) → P j (get_or (filled f n k t) j d)

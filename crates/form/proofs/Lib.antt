@@ -1,5 +1,5 @@
 pub mod Filled
-pub mod Turns
+pub mod Looks
 pub mod Settled
 pub mod Rounds
 pub mod Nullable

@@ -1,5 +1,6 @@
 pub mod Faults
 pub mod Records
+pub mod Shown
 pub mod Nullable
 pub mod Heads
 pub mod Nesting

@@ -1,8 +1,10 @@
-ghost use Rattle.std.specs.Prelude.{◌≡◌};
-ghost use Rattle.form.specs.Faults.{fault, number, section_number};
+ghost use Rattle.std.specs.Prelude.{◌≡◌, Some};
+ghost use Rattle.form.specs.Faults.{fault, fault_text, number, section_number};
+
+use std::fmt;
 
 // What can be wrong with a grammar file, in the order of their numbers, 1 to 9.
-#[derive(Clone, Copy)]
+#[derive(Clone, Copy, Debug, PartialEq, Eq)]
 pub enum FaultKind {
     // the file ends too early
     EndsEarly,
@@ -25,7 +27,7 @@ pub enum FaultKind {
 }
 
 // Where a fault is: the file as a whole, or one of its three sections.
-#[derive(Clone, Copy)]
+#[derive(Clone, Copy, Debug, PartialEq, Eq)]
 pub enum Section {
     File,
     Text,
@@ -34,7 +36,7 @@ pub enum Section {
 }
 
 // A fault: its kind, its section, and the lowest record or rule at fault there; 0 where the fault is of no record or rule.
-#[derive(Clone, Copy)]
+#[derive(Clone, Copy, Debug, PartialEq, Eq)]
 pub struct Fault {
     pub kind: FaultKind,
     pub section: Section,
@@ -54,12 +56,12 @@ impl Fault {
     }
 }
 
-impl FaultKind {
-    // The number under which the fault is reported.
-    pub fn number(self) -> u8
-        ensures { result ≡ number self }
-    {
-        match self {
+// The number under which the fault is reported.
+impl From<FaultKind> for u8 {
+    ghost from_gives = { λ kind n. n ≡ number kind };
+
+    fn from(kind: FaultKind) -> u8 {
+        match kind {
             FaultKind::EndsEarly => 1,
             FaultKind::TrailingBytes => 2,
             FaultKind::CountOutOfLimits => 3,
@@ -73,16 +75,28 @@ impl FaultKind {
     }
 }
 
-impl Section {
-    // The number under which the section is reported: 0 for the file, then the sections in their order.
-    pub fn number(self) -> u8
-        ensures { result ≡ section_number self }
-    {
-        match self {
+// The section's number; 0 for the file as a whole.
+impl From<Section> for u8 {
+    ghost from_gives = { λ section n. n ≡ section_number section };
+
+    fn from(section: Section) -> u8 {
+        match section {
             Section::File => 0,
             Section::Text => 1,
             Section::Expressions => 2,
             Section::Rules => 3,
         }
+    }
+}
+
+// `book`, then the fault's number, its section's, and the record or rule at fault.
+impl fmt::Display for Fault {
+    ghost output = { λ f. Some (fault_text f) };
+
+    fn fmt<W: fmt::Write>(&self, f: &mut fmt::Formatter<W>) -> fmt::Result {
+        let kind = u8::from(self.kind);
+        let section = u8::from(self.section);
+        let index = self.index;
+        write!(f, "book {kind} {section} {index}")
     }
 }

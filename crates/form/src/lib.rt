@@ -3,4 +3,4 @@
 
 pub mod expr;
 pub mod fault;
-pub mod records;
+pub mod rules;

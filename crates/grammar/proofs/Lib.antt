@@ -1,4 +1,4 @@
-pub mod Items
-pub mod Small
+pub mod Each
 pub mod Told
 pub mod Bytes
+pub mod Contents

@@ -1,8 +1,10 @@
 -- Told: what a call told, where memory did not fail, has a property, seen as the definitions see it.
 -- contents_of: what a grammar holds. front_of: the same, with the number of its bytes.
 -- piece_of, layout_of: the sections of a file, as the definitions see them. Split: sections that some bytes were cut into.
-use Rattle.std.specs.Prelude.{◌≡◌, ℕ, List, Ok, Err, vec_items, Result}
+-- error_text: why a check gave no grammar, as it is printed.
+use Rattle.std.specs.Prelude.{◌≡◌, ℕ, List, codes, Ok, Err, vec_items, Result}
 use Rattle.form.specs.declared.fault.Fault.{Fault}
+use Rattle.form.specs.Faults.{fault_text}
 use Rattle.form.specs.Form.{Contents, holding}
 use Rattle.form.specs.Bytes.{AllBytes}
 use Rattle.form.specs.Verdict as verdict
@@ -44,3 +46,7 @@ pub record Split (l : verdict.Layout) : Type 0 where
   pub from : List ℕ
   pub are_bytes : AllBytes from
   pub is : verdict.layout from ≡ Ok l
+
+abbrev pub error_text : CheckError → List ℕ
+error_text OutOfMemory = codes "out of memory"
+error_text (Faulty f) = fault_text f

@@ -1,16 +1,28 @@
 ghost use Rattle.std.specs.Prelude.{◌≡◌};
-ghost use Rattle.form.specs.Verdict.{contents, verdict, front_verdict};
+ghost use Rattle.form.specs.Verdict.{ended, contents, verdict, front_verdict};
 ghost use Rattle.form.specs.Meaning.{Meant, FrontMeant};
 ghost use Rattle.grammar.specs.Views.{Told, contents_of, front_of, layout_of, Split};
 
 use crate::error::CheckError;
 use crate::grammar::Grammar;
+use crate::items::read_items;
 use crate::laws::hold_laws;
-use crate::records::{read_bodies, read_records};
 use crate::sections::{Layout, split};
-use form::expr::Counts;
+use form::expr::{Counts, Expr};
 use form::fault::{Fault, FaultKind, Section};
+use form::rules::Rules;
 use std::alloc::Global;
+
+// The rules end the file: no bytes are behind them.
+fn none_behind(after: &[u8]) -> Result<(), Fault>
+    ensures { result ≡ ended after.now }
+{
+    if after.is_empty() {
+        Ok(())
+    } else {
+        Err(Fault::new(FaultKind::TrailingBytes, Section::File, 0))
+    }
+}
 
 // The grammar that the sections hold, or the first fault in records, rules and the whole.
 fn read_contents(heap: Global, layout: &Layout<'_>) -> Result<Grammar, CheckError>
@@ -22,32 +34,17 @@ fn read_contents(heap: Global, layout: &Layout<'_>) -> Result<Grammar, CheckErro
         exprs: layout.exprs.count,
         rules: layout.rules.count,
     };
-    let exprs = read_records(heap, layout.exprs.bytes, counts)?;
-    let rules = read_bodies(heap, layout.rules.bytes, counts)?;
-    hold_laws(heap, &exprs, &rules)?;
+    let exprs = read_items::<Expr>(heap, &layout.exprs, counts)?;
+    let rules = read_items::<u16>(heap, &layout.rules, counts)?;
+    hold_laws(
+        heap,
+        Rules {
+            exprs: &exprs,
+            bodies: &rules,
+        },
+    )?;
     let text = layout.text.bytes.to_vec(heap)?;
     Ok(Grammar { text, exprs, rules })
-}
-
-// The grammar that a whole file is.
-fn read_whole(heap: Global, bytes: &[u8]) -> Result<Grammar, CheckError>
-    ensures { Told contents_of (λ v. v ≡ verdict bytes.now) result }
-{
-    let layout = split(bytes)?;
-    if layout.rules.after.len() > 0 {
-        let fault = Fault::new(FaultKind::TrailingBytes, Section::File, 0);
-        return Err(CheckError::Faulty(fault));
-    }
-    read_contents(heap, &layout)
-}
-
-// The grammar at the front of the bytes, and how many of them are its own.
-fn read_front(heap: Global, bytes: &[u8]) -> Result<(Grammar, usize), CheckError>
-    ensures { Told front_of (λ v. v ≡ front_verdict bytes.now) result }
-{
-    let layout = split(bytes)?;
-    let grammar = read_contents(heap, &layout)?;
-    Ok((grammar, bytes.len() - layout.rules.after.len()))
 }
 
 impl Grammar {
@@ -56,7 +53,9 @@ impl Grammar {
         ensures is { Told contents_of (λ v. v ≡ verdict bytes.now) result }
         ensures means { Told contents_of (Meant bytes.now) result }
     {
-        read_whole(heap, bytes)
+        let layout = split(bytes)?;
+        none_behind(layout.rules.after)?;
+        read_contents(heap, &layout)
     }
 
     // The grammar at the front of longer bytes, and how many of them are its own: it ends by its counts.
@@ -64,6 +63,8 @@ impl Grammar {
         ensures is { Told front_of (λ v. v ≡ front_verdict bytes.now) result }
         ensures means { Told front_of (FrontMeant bytes.now) result }
     {
-        read_front(heap, bytes)
+        let layout = split(bytes)?;
+        let grammar = read_contents(heap, &layout)?;
+        Ok((grammar, bytes.len() - layout.rules.after.len()))
     }
 }

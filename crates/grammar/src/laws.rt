@@ -3,9 +3,9 @@ ghost use Rattle.form.specs.Verdict.{unless, lawful};
 ghost use Rattle.grammar.specs.Views.{Told, same};
 
 use crate::error::CheckError;
-use analysis::marks::{first_left_recursive, first_nullable_repeat};
-use form::expr::Expr;
+use analysis::Analysis;
 use form::fault::{Fault, FaultKind, Section};
+use form::rules::Rules;
 use nesting::first_too_deep;
 use std::alloc::Global;
 
@@ -21,15 +21,16 @@ fn none_at_fault(found: Option<usize>, kind: FaultKind, section: Section) -> Res
 }
 
 // No record is nested too deep, no repeat has a part that may take nothing, and no rule is left recursive.
-pub(crate) fn hold_laws(heap: Global, exprs: &[Expr], rules: &[u16]) -> Result<(), CheckError>
-    requires { (length exprs.now ≤ 512) × (length rules.now ≤ 64) }
-    ensures { Told same (λ v. v ≡ lawful exprs.now rules.now) result }
+pub(crate) fn hold_laws(heap: Global, rules: Rules<'_>) -> Result<(), CheckError>
+    requires { (length rules.exprs.now ≤ 512) × (length rules.bodies.now ≤ 64) }
+    ensures { Told same (λ v. v ≡ lawful rules.entry.exprs.now rules.entry.bodies.now) result }
 {
-    let deep = first_too_deep(heap, exprs)?;
+    let deep = first_too_deep(heap, rules.exprs)?;
     none_at_fault(deep, FaultKind::NestedTooDeep, Section::Expressions)?;
-    let repeat = first_nullable_repeat(heap, exprs, rules)?;
+    let analysis = Analysis::new(heap, rules)?;
+    let repeat = analysis.first_nullable_repeat();
     none_at_fault(repeat, FaultKind::NullableRepeat, Section::Expressions)?;
-    let recursive = first_left_recursive(heap, exprs, rules)?;
+    let recursive = analysis.first_left_recursive(heap)?;
     none_at_fault(recursive, FaultKind::LeftRecursion, Section::Rules)?;
     Ok(())
 }

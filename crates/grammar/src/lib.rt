@@ -4,6 +4,7 @@
 mod check;
 pub mod error;
 pub mod grammar;
+mod items;
 mod laws;
 mod records;
 mod sections;

@@ -1,5 +1,6 @@
-// What reading a rule at a position comes to.
-#[derive(Clone, Copy)]
+// What reading a rule at a position comes to. By a rule of the project all five have a value whether it matched or not, so
+// that nothing here is an Option.
+#[derive(Clone, Copy, Debug, PartialEq, Eq)]
 pub struct Reading {
     // whether it matched
     pub matched: bool,
@@ -14,7 +15,7 @@ pub struct Reading {
 }
 
 // Why a rule at a position has no reading.
-#[derive(Clone, Copy)]
+#[derive(Clone, Copy, Debug, PartialEq, Eq)]
 pub enum Refusal {
     // the grammar has no such rule
     NoSuchRule,

@@ -1,8 +1,9 @@
-// The number that names no node.
+// The number that names no node. By a rule of the project a node is seven numbers of 16 bits in memory that the caller lends,
+// and this one is none: so a link is no Option.
 pub const NONE: u16 = 65535;
 
 // A node of the tree that a match builds. A link to another node is its number in the table, or NONE.
-#[derive(Clone, Copy)]
+#[derive(Clone, Copy, Debug, PartialEq, Eq)]
 pub struct Node {
     pub tag: u16,
     // where the node's text begins and ends

@@ -1,17 +1,17 @@
--- The verdict's meaning, at what the call told.
-use Rattle.std.proofs.Common.{arith}
-use Rattle.form.specs.Verdict.{verdict}
-use Rattle.form.specs.Meaning.{Meant}
-use Rattle.form.proofs.Meaning.{meant}
-use Rattle.grammar.specs.Views.{contents_of}
-use Rattle.grammar.proofs.Bytes.{all_bytes}
-use Rattle.grammar.proofs.Told.{told_as}
+-- The sections were cut from the bytes that were passed, and each answer has its verdict's meaning.
+use Rattle.std.proofs.Common.{rules}
+use Rattle.grammar.proofs.Bytes.{split_from}
+use Rattle.grammar.proofs.Told.{told_meant}
 use Rattle.grammar.proofs.grammar.Grammar.check.Goals as goal
 
-pub returns : goal.returns
-returns c =
-    let bs = c.args.bytes.now in
-    record {
-      is = c.read_whole.ensures;
-      means = told_as contents_of (verdict bs) (Meant bs) (meant bs (all_bytes bs (λ i. omega (arith, c.type_inv.bytes i)))) c.read_whole.result c.read_whole.ensures;
-    }
+pub read_contents-requires : goal.read_contents-requires
+read_contents-requires c = split_from _ _ c.in_ok-layout.ensures c.type_inv.bytes
+
+pub returns-in_err-layout-clause-means : goal.returns-in_err-layout-clause-means
+returns-in_err-layout-clause-means c = told_meant _ c.type_inv.bytes _ (search rules)
+
+pub returns-in_err-none_behind-clause-means : goal.returns-in_err-none_behind-clause-means
+returns-in_err-none_behind-clause-means c = told_meant _ c.type_inv.bytes _ (search rules)
+
+pub returns-clause-means : goal.returns-clause-means
+returns-clause-means c = told_meant _ c.type_inv.bytes c.read_contents.result (search rules)

@@ -1,17 +1,22 @@
--- The verdict's meaning, at what the call told.
-use Rattle.std.proofs.Common.{arith}
-use Rattle.form.specs.Verdict.{front_verdict}
-use Rattle.form.specs.Meaning.{FrontMeant}
-use Rattle.form.proofs.Meaning.{front_meant}
-use Rattle.grammar.specs.Views.{front_of}
-use Rattle.grammar.proofs.Bytes.{all_bytes}
-use Rattle.grammar.proofs.Told.{told_as}
+-- The sections were cut from the bytes that were passed, and each answer has its verdict's meaning.
+use Rattle.std.proofs.Common.{ℕ, ◌-◌, length, Ok, rules}
+use Rattle.grammar.proofs.Bytes.{split_from, after_short}
+use Rattle.grammar.proofs.Told.{told_front_meant}
 use Rattle.grammar.proofs.grammar.Grammar.check_front.Goals as goal
 
-pub returns : goal.returns
-returns c =
-    let bs = c.args.bytes.now in
-    record {
-      is = c.read_front.ensures;
-      means = told_as front_of (front_verdict bs) (FrontMeant bs) (front_meant bs (all_bytes bs (λ i. omega (arith, c.type_inv.bytes i)))) c.read_front.result c.read_front.ensures;
-    }
+pub read_contents-requires : goal.read_contents-requires
+read_contents-requires c = split_from _ _ c.in_ok-layout.ensures c.type_inv.bytes
+
+pub overflow_sub-result : goal.overflow_sub-result
+overflow_sub-result c = after_short _ _ c.in_ok-layout.ensures c.type_inv.bytes
+
+pub returns-in_err-layout-clause-means : goal.returns-in_err-layout-clause-means
+returns-in_err-layout-clause-means c = told_front_meant _ c.type_inv.bytes _ (search rules)
+
+pub returns-in_err-grammar-clause-means : goal.returns-in_err-grammar-clause-means
+returns-in_err-grammar-clause-means c = told_front_meant _ c.type_inv.bytes _ (search rules)
+
+pub returns-clause-means : goal.returns-clause-means
+returns-clause-means c =
+    let n : ℕ = length c.args.bytes.now - length c.in_ok-layout.layout.rules.after.now in
+    told_front_meant _ c.type_inv.bytes (Ok (c.in_ok-grammar.grammar, n)) (search rules)
