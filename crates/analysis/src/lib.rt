@@ -1,11 +1,11 @@
 // What the records of a grammar come to: which may take nothing, which rules are heads of them, and which rules are left recursive.
 #![tactic(auto)]
 
-ghost use Rattle.std.specs.Prelude.{◌≡◌, ◌<◌, length, IfOk, IfSome};
-ghost use Rattle.form.specs.Tables.{nullables, repeats_marked, left_recursive};
+ghost use Rattle.std.specs.Prelude.{◌≡◌, ℕ, ◌<◌, length, Ok, IfOk, IfSome};
+ghost use Rattle.form.specs.Tables.{marked, nullables, repeats_marked, left_recursive};
 ghost use Rattle.form.specs.Verdict.{first_nullable_repeat, first_left_recursive};
 ghost use Rattle.analysis.specs.Entries.{is_head};
-ghost use Rattle.analysis.specs.Tells.{MarksNullable, MarkedBy, HeadMarks, MarksHeads};
+ghost use Rattle.analysis.specs.Tells.{MarksNullable, HeadMarks, MarksHeads};
 
 mod question;
 mod settle;
@@ -45,6 +45,17 @@ impl<'a> Analysis<'a> {
         Ok(Analysis { rules, nullable })
     }
 
+    // By rule number, what a test answers of each rule.
+    fn mark_by<F>(&self, heap: Global, test: F) -> Result<Vec<bool>, AllocError>
+    where
+        F: Fn(usize) -> Result<bool, AllocError>,
+        requires { (rule : ℕ) → rule < length self.now.rules.bodies.now → F.pre test rule }
+        ensures long { IfOk result (λ v. length v.items ≡ length self.now.rules.bodies.now) }
+        ensures each { IfOk result (λ v. (rule : ℕ) → rule < length self.now.rules.bodies.now → F.post test rule (Ok (marked v.items rule))) }
+    {
+        (0..self.rules.bodies.len()).map(test).try_collect(heap)
+    }
+
     // The question which records have a marked rule as a head.
     fn has_head(&self) -> HasHead<'_>
         ensures { result.nullable.now ≡ self.now.nullable.items }
@@ -69,9 +80,7 @@ impl<'a> Analysis<'a> {
         ensures is { IfOk result (λ v. HeadMarks self.now.rules.exprs.now self.now.rules.bodies.now number v.items) }
         ensures tells { IfOk result (λ v. MarksHeads self.now.rules.exprs.now self.now.rules.bodies.now number v.items) }
     {
-        (0..self.rules.bodies.len())
-            .map(|rule| self.is_head(heap, number, rule))
-            .try_collect(heap)
+        self.mark_by(heap, |rule| self.is_head(heap, number, rule))
     }
 
     // The first repeat of what may take nothing.
@@ -96,22 +105,13 @@ impl<'a> Analysis<'a> {
         Ok(is_marked(&table, self.rules.body(rule)))
     }
 
-    // By rule number, which rules can come back to themselves with no byte taken.
-    fn left_recursive(&self, heap: Global) -> Result<Vec<bool>, AllocError>
-        ensures { IfOk result (λ v. MarkedBy (left_recursive self.now.rules.exprs.now self.now.rules.bodies.now) (length self.now.rules.bodies.now) v.items) }
-    {
-        (0..self.rules.bodies.len())
-            .map(|rule| self.is_left_recursive(heap, rule))
-            .try_collect(heap)
-    }
-
     // The first rule that can come back to itself with no byte taken.
     pub fn first_left_recursive(&self, heap: Global) -> Result<Option<usize>, AllocError>
         ensures is { IfOk result (λ o. o ≡ first_left_recursive self.now.rules.exprs.now self.now.rules.bodies.now) }
         ensures within { IfOk result (λ o. IfSome o (λ r. r < length self.now.rules.bodies.now)) }
     {
-        let recursive = self.left_recursive(heap)?;
-        Ok(recursive.iter().position(|&is| is))
+        let marks = self.mark_by(heap, |rule| self.is_left_recursive(heap, rule))?;
+        Ok(marks.iter().position(|&recursive| recursive))
     }
 }
 

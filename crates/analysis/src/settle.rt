@@ -17,7 +17,7 @@ pub(crate) fn answer_all<Q: Question>(
     ensures { IfOk result (λ v. v.items ≡ tested (Q.test question.now) exprs.now marks.now) }
 {
     let mut table = vec![in heap; false; exprs.len()]?;
-    // By number, since an entry is written from those behind it: a chain that reads what it writes is no plainer.
+    // By number: over `exprs.iter().enumerate().rev()` the proof did not close, and a chain that reads what it writes is no plainer.
     for e in (0..exprs.len()).rev() {
         table[e] = question.answer(exprs[e], marks, &table);
     }
@@ -25,7 +25,7 @@ pub(crate) fn answer_all<Q: Question>(
 }
 
 // Marks the rules whose body the table marks, beside those that are marked.
-fn join(rules: &Rules, table: &[bool], marks: &mut [bool])
+fn join(rules: &Rules<'_>, table: &[bool], marks: &mut [bool])
     requires { length marks.old ≡ length rules.now.bodies.now }
     ensures { marks.new ≡ joined rules.now.exprs.now rules.now.bodies.now table.now marks.old }
 {
@@ -38,7 +38,7 @@ fn join(rules: &Rules, table: &[bool], marks: &mut [bool])
 pub(crate) fn settle<Q: Question>(
     heap: Global,
     question: &Q,
-    rules: &Rules,
+    rules: &Rules<'_>,
     mut marks: Vec<bool>,
 ) -> Result<Vec<bool>, AllocError>
     requires { vec_len marks ≡ length rules.now.bodies.now }

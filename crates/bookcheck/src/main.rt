@@ -30,7 +30,10 @@ fn run(rt: &HostRuntime) -> anyhow::Result<()> {
     rt.stdin().read_to_end(&mut input)?;
     match Grammar::check(heap, &input) {
         Ok(grammar) => print_grammar(rt, heap, &grammar),
-        Err(CheckError::Faulty(fault)) => Ok(println!(rt; "{fault}")?),
+        Err(CheckError::Faulty(fault)) => {
+            println!(rt; "{fault}")?;
+            Ok(())
+        }
         Err(error) => Err(error.into()),
     }
 }

@@ -20,29 +20,36 @@ impl fmt::Display for Quoted<'_> {
     }
 }
 
-// A record: its number, its kind and its fields; behind a text its bytes, and behind a range its lowest and its highest byte.
-fn print_record(rt: &impl Print, number: usize, expr: Expr, text: &[u8]) -> io::Result<()> {
-    match expr {
-        Expr::Text { start, length } => {
-            let from = usize::from(start);
-            let bytes = text.get(from..from + usize::from(length)).unwrap_or(&[]);
-            println!(rt; "record {number}: {expr} {}", Quoted(bytes))
+// A record as it is printed: its number, its kind and its fields; behind a text its bytes, and behind a range its lowest and its
+// highest byte.
+#[derive(Clone, Copy)]
+struct Record<'a> {
+    number: usize,
+    expr: Expr,
+    // the grammar's text
+    text: &'a [u8],
+}
+
+impl fmt::Display for Record<'_> {
+    fn fmt<W: fmt::Write>(&self, f: &mut fmt::Formatter<W>) -> fmt::Result {
+        write!(f, "record {}: {}", self.number, self.expr)?;
+        match self.expr {
+            Expr::Text { start, length } => {
+                let from = usize::from(start).min(self.text.len());
+                let to = (usize::from(start) + usize::from(length)).min(self.text.len());
+                write!(f, " {}", Quoted(&self.text[from..to]))
+            }
+            Expr::Range { low, high } => { write!(f, " {} to {}", Quoted(&[low]), Quoted(&[high])) }
+            _ => Ok(()),
         }
-        Expr::Range { low, high } => {
-            println!(rt;
-                "record {number}: {expr} {} to {}",
-                Quoted(&[low]),
-                Quoted(&[high])
-            )
-        }
-        _ => println!(rt; "record {number}: {expr}"),
     }
 }
 
 // Each record, in order.
 pub(crate) fn print_records(rt: &impl Print, grammar: &Grammar) -> io::Result<()> {
-    for (number, expr) in grammar.exprs.iter().enumerate() {
-        print_record(rt, number, *expr, &grammar.text)?;
+    for (number, &expr) in grammar.exprs.iter().enumerate() {
+        let text = &grammar.text;
+        println!(rt; "{}", Record { number, expr, text })?;
     }
     Ok(())
 }

@@ -54,15 +54,10 @@ fn read_file(heap: Global, runs: &str) -> Result<Vec<u8>, AllocError> {
     Ok(out)
 }
 
-// What the check tells of a file: that it is accepted, or where the grammar at its front ends, or its fault.
-fn told(heap: Global, front: bool, file: &[u8]) -> anyhow::Result<String> {
-    let checked = if front {
-        Grammar::check_front(heap, file).map(|(_, end)| Some(end))
-    } else {
-        Grammar::check(heap, file).map(|_| None)
-    };
+// What is told of a file that was checked: that it is accepted, or where the grammar at its front ends, or its fault.
+fn told(heap: Global, checked: Result<Option<usize>, CheckError>) -> anyhow::Result<String> {
     let text = match checked {
-        Ok(None) => format!(in heap; "accepted")?,
+        Ok(None) => String::from_str(heap, "accepted")?,
         Ok(Some(end)) => format!(in heap; "ends at {end}")?,
         Err(CheckError::Faulty(fault)) => format!(in heap; "{fault}")?,
         Err(error) => return Err(error.into()),
@@ -79,7 +74,12 @@ fn run_case(rt: &impl Print, heap: Global, line: &str) -> anyhow::Result<bool> {
         return Err(anyhow!("a line with no bytes"));
     };
     let file = read_file(heap, runs)?;
-    let answer = told(heap, name.starts_with("front"), &file)?;
+    let checked = if name.starts_with("front") {
+        Grammar::check_front(heap, &file).map(|(_, end)| Some(end))
+    } else {
+        Grammar::check(heap, &file).map(|_| None)
+    };
+    let answer = told(heap, checked)?;
     let right = answer.as_str() == expected;
     let mark = if right { "ok" } else { "NOT AS EXPECTED" };
     println!(rt; "{mark} {name}: {answer}")?;

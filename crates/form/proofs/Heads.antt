@@ -14,10 +14,6 @@ use Rattle.form.proofs.Rounds.{blank_unmarked, tested_sound, tested_at, settled_
 use Rattle.form.proofs.Nullable.{nullable_sound, nullable_complete}
 
 local : (m v : List Bool) → Local false (has_head m v)
-local m v t u k n Empty l h = refl
-local m v t u k n (Text a b) l h = refl
-local m v t u k n (Range a b) l h = refl
-local m v t u k n (Rule r) l h = refl
 local m v t u k n (Sequence a b) l h = ap₂ (λ x y. x || (marked m a && y)) (h a l.0) (h b l.2.0)
 local m v t u k n (Choice a b) l h = ap₂ ◌||◌ (h a l.0) (h b l.2.0)
 local m v t u k n (Repeat a) l h = h a l.0
@@ -26,7 +22,7 @@ local m v t u k n (Absent a) l h = h a l.0
 local m v t u k n (Node a) l h = h a l.0
 local m v t u k n (Link a) l h = h a l.0
 local m v t u k n (Fold a) l h = h a l.0
-local m v t u k n (Tag a) l h = refl
+local m v t u k n _ l h = refl
 
 only_is : (n r j : ℕ) → marked (only n r) j ≡ true → j ≡ r
 only_is zero r j m = absurd (false≢true m)

@@ -1,8 +1,8 @@
 -- The three looks through records and rules find the lowest number at fault.
-use Rattle.std.proofs.Common.{◌≡◌, ℕ, zero, suc, ◌+◌, ◌<◌, Bool, true, false, cond, ltb, List, length, get_or, Some, None, Decides, Option, sym, refl, ◌∙◌, subst, inl, inr, arith}
+use Rattle.std.proofs.Common.{◌≡◌, ℕ, zero, suc, ◌+◌, ◌<◌, Bool, true, false, cond, ltb, List, length, get_or, Some, None, Decides, Option, sym, refl, ap, ◌∙◌, subst, inl, inr, arith}
 use Rattle.std.proofs.lemmas.Bool.{false≢true, cases_eq}
 use Rattle.form.specs.declared.expr.Expr.{Expr}
-use Rattle.form.specs.declared.expr.Expr.TheVariants.{Empty, Text, Range, Rule, Sequence, Choice, Repeat, Ahead, Absent, Node, Link, Fold, Tag}
+use Rattle.form.specs.declared.expr.Expr.TheVariants.{Repeat}
 use Rattle.form.specs.Records.{at, Ordered}
 use Rattle.form.specs.Nullable.{NullablePart}
 use Rattle.form.specs.Heads.{LeftRecursive}
@@ -32,10 +32,14 @@ module _ (P : ℕ → Type 0) where
   lowest f k zero d = λ j l h p. absurd (omega arith)
   lowest f k (suc n) d = here k n (f k) (d k (omega arith)) (first_from f (k + 1) n) (lowest f (k + 1) n (λ j h. d j (omega arith)))
 
+abbrev is_repeat : Expr → Bool
+is_repeat (Repeat a) = true
+is_repeat _ = false
+
 module _ (es : List Expr) (rs : List ℕ) (ord : Ordered es) (k : ℕ) where
   -- no other kind of record is a repeat
-  no_repeat : (x : Expr) → at es k ≡ x → ((a : ℕ) → x ≡ Repeat a → ⊥) → Decides false (NullablePart es rs k)
-  no_repeat x q d = (λ e. absurd (false≢true e), λ w. absurd (d w.part (sym q ∙ w.repeats)))
+  no_repeat : (x : Expr) → at es k ≡ x → is_repeat x ≡ false → Decides false (NullablePart es rs k)
+  no_repeat x q other = (λ e. absurd (false≢true e), λ w. absurd (false≢true (sym other ∙ ap is_repeat (sym q ∙ w.repeats))))
 
   repeat_is : (a b : ℕ) → ◌≡◌ {A = Expr} (Repeat a) (Repeat b) → a ≡ b
   repeat_is a b e = cc
@@ -46,18 +50,7 @@ module _ (es : List Expr) (rs : List ℕ) (ord : Ordered es) (k : ℕ) where
         λ e. record { part = a; repeats = q; nullable = d.0 e },
         λ w. d.1 (rw (← repeat_is a w.part (sym q ∙ w.repeats)) at w.nullable),
       )
-  repeat_decided Empty q = no_repeat Empty q (λ c e. let z : ◌≡◌ {A = ℕ} 0 1 = cc in omega arith)
-  repeat_decided (Text a b) q = no_repeat (Text a b) q (λ c e. let z : ◌≡◌ {A = ℕ} 0 1 = cc in omega arith)
-  repeat_decided (Range a b) q = no_repeat (Range a b) q (λ c e. let z : ◌≡◌ {A = ℕ} 0 1 = cc in omega arith)
-  repeat_decided (Rule r) q = no_repeat (Rule r) q (λ c e. let z : ◌≡◌ {A = ℕ} 0 1 = cc in omega arith)
-  repeat_decided (Sequence a b) q = no_repeat (Sequence a b) q (λ c e. let z : ◌≡◌ {A = ℕ} 0 1 = cc in omega arith)
-  repeat_decided (Choice a b) q = no_repeat (Choice a b) q (λ c e. let z : ◌≡◌ {A = ℕ} 0 1 = cc in omega arith)
-  repeat_decided (Ahead a) q = no_repeat (Ahead a) q (λ c e. let z : ◌≡◌ {A = ℕ} 0 1 = cc in omega arith)
-  repeat_decided (Absent a) q = no_repeat (Absent a) q (λ c e. let z : ◌≡◌ {A = ℕ} 0 1 = cc in omega arith)
-  repeat_decided (Node a) q = no_repeat (Node a) q (λ c e. let z : ◌≡◌ {A = ℕ} 0 1 = cc in omega arith)
-  repeat_decided (Link a) q = no_repeat (Link a) q (λ c e. let z : ◌≡◌ {A = ℕ} 0 1 = cc in omega arith)
-  repeat_decided (Fold a) q = no_repeat (Fold a) q (λ c e. let z : ◌≡◌ {A = ℕ} 0 1 = cc in omega arith)
-  repeat_decided (Tag a) q = no_repeat (Tag a) q (λ c e. let z : ◌≡◌ {A = ℕ} 0 1 = cc in omega arith)
+  repeat_decided x q = no_repeat x q refl
 
 module _ (es : List Expr) (ord : Ordered es) where
   pub deep_found : Found (TooDeep es) 0 (length es) (first_too_deep es)

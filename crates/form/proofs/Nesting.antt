@@ -2,7 +2,7 @@
 use Rattle.std.proofs.Common.{◌≡◌, ℕ, zero, suc, ◌+◌, ◌<◌, ◌≤◌, max, ltb, List, [], ◌∷◌, length, get_or, Decides, sym, refl, ap, ◌∙◌, subst, ap₂, arith}
 use Rattle.std.proofs.lemmas.Bool.{ltb-true, lt-ltb}
 use Rattle.form.specs.declared.expr.Expr.{Expr}
-use Rattle.form.specs.declared.expr.Expr.TheVariants.{Empty, Text, Range, Rule, Sequence, Choice, Repeat, Ahead, Absent, Node, Link, Fold, Tag}
+use Rattle.form.specs.declared.expr.Expr.TheVariants.{Sequence, Choice}
 use Rattle.form.specs.Records.{at, parts, Later, Ordered}
 use Rattle.form.specs.Nesting.{Nested, TooDeep}
 use Rattle.form.specs.Nesting.Nested.{leaf, one, two}
@@ -14,19 +14,9 @@ deepest_local t u k n [] l h = refl
 deepest_local t u k n (p ∷ ps) l h = ap₂ max (h p l.0) (deepest_local t u k n ps l.2 h)
 
 at_most_two : (x : Expr) → length (parts x) ≤ 2
-at_most_two Empty = omega arith
-at_most_two (Text a b) = omega arith
-at_most_two (Range a b) = omega arith
-at_most_two (Rule r) = omega arith
 at_most_two (Sequence a b) = omega arith
 at_most_two (Choice a b) = omega arith
-at_most_two (Repeat a) = omega arith
-at_most_two (Ahead a) = omega arith
-at_most_two (Absent a) = omega arith
-at_most_two (Node a) = omega arith
-at_most_two (Link a) = omega arith
-at_most_two (Fold a) = omega arith
-at_most_two (Tag a) = omega arith
+at_most_two _ = omega arith
 
 module _ (es : List Expr) (ord : Ordered es) where
   abbrev nesting : ℕ → ℕ

@@ -12,19 +12,12 @@ use Rattle.form.proofs.Filled.{Local}
 use Rattle.form.proofs.Rounds.{blank_unmarked, tested_sound, tested_at, settled_sound, settled_closed}
 
 local : (v : List Bool) → Local false (takes_nothing v)
-local v t u k n Empty l h = refl
-local v t u k n (Text a b) l h = refl
-local v t u k n (Range a b) l h = refl
-local v t u k n (Rule r) l h = refl
 local v t u k n (Sequence a b) l h = ap₂ ◌&&◌ (h a l.0) (h b l.2.0)
 local v t u k n (Choice a b) l h = ap₂ ◌||◌ (h a l.0) (h b l.2.0)
-local v t u k n (Repeat a) l h = refl
-local v t u k n (Ahead a) l h = refl
-local v t u k n (Absent a) l h = refl
 local v t u k n (Node a) l h = h a l.0
 local v t u k n (Link a) l h = h a l.0
 local v t u k n (Fold a) l h = h a l.0
-local v t u k n (Tag a) l h = refl
+local v t u k n _ l h = refl
 
 module _ (es : List Expr) (rs : List ℕ) where
   -- a derivation for what the test says of one record

@@ -1,8 +1,9 @@
 -- What the sections, records and rules that were read are: contents in order, and these are the bytes.
 use Rattle.std.proofs.Common.{◌≡◌, ℕ, zero, suc, ◌+◌, ◌*◌, ◌/◌, ◌%◌, ◌<◌, ◌≤◌, Bool, true, ◌&&◌, ◌||◌, eqb, ltb, leb, List, [], ◌∷◌, ◌++◌, length, get_or, take, drop, Ok, Err, Result}
-use Rattle.std.proofs.Common.{sym, refl, ap, ◌∙◌, subst, ap₂, arith, length-append, length-drop}
-use Rattle.std.proofs.lemmas.List.{length-take-le, take-append-drop, append_assoc, nil_from_length}
-use Rattle.std.proofs.lemmas.Bool.{ltb-true, ltb-false, leb-true, eqb-true, and_parts, or_parts}
+use Rattle.std.proofs.Common.{sym, refl, ap, ◌∙◌, subst, ap₂, inl, inr, arith, length-append, length-drop}
+use Rattle.std.proofs.lemmas.List.{length-take-le, take-append-drop, append_assoc, nil_from_length, get_or_past}
+use Rattle.std.proofs.lemmas.List.Elements.{All-take, All-drop}
+use Rattle.std.proofs.lemmas.Bool.{cases_lt, ltb-true, ltb-false, leb-true, eqb-true, and_parts, or_parts}
 use Rattle.form.specs.declared.expr.Counts.{Counts}
 use Rattle.form.specs.declared.expr.Expr.{Expr}
 use Rattle.form.specs.declared.expr.Expr.TheVariants.{Empty, Text, Range, Rule, Sequence, Choice, Repeat, Ahead, Absent, Node, Link, Fold, Tag}
@@ -19,20 +20,8 @@ use Rattle.form.specs.Bytes as bytes
 use Rattle.form.specs.Verdict.{Piece, wide_at, piece, Layout, layout, allow, is_part, one_part, expression, record_at, body_at, each, counts}
 use Rattle.form.proofs.Yields.{ok_is, then_ok, Yields, of_cond, of_ok, of_err}
 
-bytes_take : (n : ℕ) (s : List ℕ) → AllBytes s → AllBytes (take n s)
-bytes_take zero s h = tt
-bytes_take (suc n) [] h = tt
-bytes_take (suc n) (x ∷ s) h = (h.0, bytes_take n s h.1)
-
-bytes_drop : (n : ℕ) (s : List ℕ) → AllBytes s → AllBytes (drop n s)
-bytes_drop zero s h = h
-bytes_drop (suc n) [] h = tt
-bytes_drop (suc n) (x ∷ s) h = bytes_drop n s h.1
-
 byte_at : (s : List ℕ) → AllBytes s → (i : ℕ) → get_or s i 0 < 256
-byte_at [] h i = omega arith
-byte_at (x ∷ s) h zero = h.0
-byte_at (x ∷ s) h (suc i) = byte_at s h.1 i
+byte_at s h i = elim (cases_lt i (length s)) [ inl l ↦ h i 0 l | inr past ↦ rw (get_or_past s i 0 past) (omega arith) ]
 
 wide_fits : (s : List ℕ) → AllBytes s → (i : ℕ) → wide_at s i ≤ 65535
 wide_fits s h i = omega (arith, byte_at s h i, byte_at s h (i + 1))
@@ -46,14 +35,15 @@ wide_is h l s b =
 wide_front : (s : List ℕ) → 2 ≤ length s → AllBytes s → wide (wide_at s 0) (drop 2 s) ≡ s
 wide_front [] l h = absurd (omega arith)
 wide_front (x ∷ []) l h = absurd (omega arith)
-wide_front (x ∷ y ∷ s) l h = wide_is x y s h.1.0
+wide_front (x ∷ y ∷ s) l h = wide_is x y s (h 1 0 (omega arith))
 
 fields_front : (s : List ℕ) → 5 ≤ length s → AllBytes s → fields (get_or s 0 0) (wide_at s 1) (wide_at s 3) (drop 5 s) ≡ s
 fields_front [] l h = absurd (omega arith)
 fields_front (k ∷ []) l h = absurd (omega arith)
 fields_front (k ∷ a ∷ []) l h = absurd (omega arith)
 fields_front (k ∷ a ∷ b ∷ s) l h =
-    ap (λ t. k ∷ wide (wide_at (a ∷ b ∷ s) 0) t) (wide_front s (omega arith) h.1.1.1) ∙ ap (λ t. k ∷ t) (wide_is a b s h.1.1.0)
+    ap (λ t. k ∷ wide (wide_at (a ∷ b ∷ s) 0) t) (wide_front s (omega arith) (All-drop (λ x. x < 256) 3 (k ∷ a ∷ b ∷ s) h))
+    ∙ ap (λ t. k ∷ t) (wide_is a b s (h 2 0 (omega arith)))
 
 -- A section.
 
@@ -79,8 +69,8 @@ piece_read s low high size bs h =
       least = ltb-false n low (or_parts (ltb n low) (ltb high n) t).0;
       most = ltb-false high n (or_parts (ltb n low) (ltb high n) t).1;
       is = sym (ap (wide n) (take-append-drop (n * size) rest) ∙ wide_front bs (ltb-false (length bs) 2 q) h);
-      bytes_are = bytes_take (n * size) rest (bytes_drop 2 bs h);
-      after_are = bytes_drop (n * size) rest (bytes_drop 2 bs h);
+      bytes_are = All-take (λ b. b < 256) (n * size) rest (All-drop (λ b. b < 256) 2 bs h);
+      after_are = All-drop (λ b. b < 256) (n * size) rest (All-drop (λ b. b < 256) 2 bs h);
     }))))
 
 pub record LayoutRead (bs : List ℕ) (l : Layout) : Type 0 where
@@ -206,7 +196,7 @@ module _ {A : Type 0} (one : ℕ → List ℕ → Result A Fault) (size : ℕ) (
       let u = then_ok (one n bs) (λ x. and_then (each one size m (n + 1) (drop size bs)) (λ ys. Ok (x ∷ ys))) xs q in
       let v = then_ok (each one size m (n + 1) (drop size bs)) (λ ys. Ok (u.0 ∷ ys)) xs u.2 in
       let front = item n bs h (omega (arith, grown m)) u.0 u.1 in
-      let rest = items_read m (n + 1) (drop size bs) (length-drop size bs ∙ omega (arith, grown m)) (bytes_drop size bs h) v.0 v.1 in
+      let rest = items_read m (n + 1) (drop size bs) (length-drop size bs ∙ omega (arith, grown m)) (All-drop (λ b. b < 256) size bs h) v.0 v.1 in
       subst (Items (suc m) n bs) (ok_is (u.0 ∷ v.0) xs v.2)
       (record {
         long = ap suc rest.long;

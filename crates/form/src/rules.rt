@@ -4,7 +4,7 @@ ghost use Rattle.form.specs.Records.{at, body};
 use crate::expr::Expr;
 
 // The rules of a grammar: the records of its expressions and, by rule number, the record that is each rule's body.
-#[derive(Clone, Copy)]
+#[derive(Clone, Copy, Debug, PartialEq, Eq)]
 pub struct Rules<'a> {
     pub exprs: &'a [Expr],
     pub bodies: &'a [u16],

@@ -1,5 +1,5 @@
 -- What a call told of a verdict has the verdict's meaning.
-use Rattle.std.proofs.Common.{◌≡◌, ℕ, List, Ok, Err, Result, Fits, w8, get_or, sym, subst}
+use Rattle.std.proofs.Common.{◌≡◌, ℕ, ◌<◌, List, Ok, Err, Result, get_or, sym, subst}
 use Rattle.std.specs.Result.{IsErrAnd}
 use Rattle.std.proofs.lemmas.Result.{err_from_is_err_and}
 use Rattle.form.specs.declared.fault.Fault.{Fault}
@@ -13,7 +13,7 @@ use Rattle.grammar.specs.Views.{Told, contents_of, front_of}
 use Rattle.grammar.proofs.Bytes.{all_bytes}
 
 -- what is true of a verdict is true of a call that told it
-told_as : {A B : Type 0} (view : A → B) (d : Result B Fault) (M : Result B Fault → Type 0) → M d
+pub told_as : {A B : Type 0} (view : A → B) (d : Result B Fault) (M : Result B Fault → Type 0) → M d
     → (r : Result A CheckError) → Told view (λ v. v ≡ d) r → Told view M r
 told_as view d M m (Ok x) e = subst M (sym e) m
 told_as view d M m (Err OutOfMemory) e = tt
@@ -24,7 +24,7 @@ pub told_fault : {A B : Type 0} (view : A → B) (d : Result B Fault) (f : Fault
     → Told view (λ v. v ≡ d) r
 told_fault view d f r passed e = let p = err_from_is_err_and r passed in rw (p.1, p.2) e
 
-module _ (bs : List ℕ) (bytes : (i : ℕ) → Fits w8 (get_or bs i 0)) where
+module _ (bs : List ℕ) (bytes : (i : ℕ) → get_or bs i 0 < 256) where
   pub told_meant : (r : Result Grammar CheckError) → Told contents_of (λ v. v ≡ verdict bs) r → Told contents_of (Meant bs) r
   told_meant = told_as contents_of (verdict bs) (Meant bs) (meant bs (all_bytes bs bytes))
 

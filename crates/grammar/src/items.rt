@@ -60,7 +60,8 @@ pub(crate) fn read_items<T: Item>(
 {
     let mut items = Vec::new(heap);
     let mut rest = section.bytes;
-    // An item is taken by a slice pattern, a rule of the project; so the loop has its number beside the bytes that are left.
+    // That an item is taken by a slice pattern, with the rest of the bytes as its tail, is a rule of the project; so the loop goes
+    // over numbers, beside the bytes that are left.
     for number in 0..section.count {
         let (item, after) = T::take(counts, number, rest)?;
         items.push(item)?;

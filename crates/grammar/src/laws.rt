@@ -15,6 +15,7 @@ fn none_at_fault(found: Option<usize>, kind: FaultKind, section: Section) -> Res
     ensures { result ≡ unless kind section found }
 {
     match found {
+        // The cast is proved to lose nothing: `try_from` would add an error that cannot come.
         Some(k) => Err(Fault::new(kind, section, k as u16)),
         None => Ok(()),
     }

@@ -7,9 +7,10 @@ use crate::items::Item;
 use form::expr::{Counts, Expr};
 use form::fault::{Fault, FaultKind, Section};
 
-// A record as its five bytes have it: its kind and its two fields, with its number.
+// A record as its five bytes have it, its kind and its two fields, with its number and the counts of its file.
 #[derive(Clone, Copy)]
 struct Record {
+    counts: Counts,
     number: u16,
     kind: u8,
     first: u16,
@@ -32,45 +33,41 @@ impl Record {
     }
 
     // Whether the number is that of a record behind this one.
-    fn is_part(self, counts: Counts, part: u16) -> bool
-        ensures { result ≡ is_part counts self.number part }
+    fn is_part(self, part: u16) -> bool
+        ensures { result ≡ is_part self.counts self.number part }
     {
-        self.number < part && part < counts.exprs
+        self.number < part && part < self.counts.exprs
     }
 
     // The expression with one part, whose second field is not used.
-    fn one_part(self, counts: Counts, expr: Expr) -> Result<Expr, Fault>
-        ensures { result ≡ one_part counts self.number self.first self.second expr }
+    fn one_part(self, expr: Expr) -> Result<Expr, Fault>
+        ensures { result ≡ one_part self.counts self.number self.first self.second expr }
     {
         if self.second != 0 {
             return Err(self.fault(FaultKind::FieldOutOfRange));
         }
-        self.allow(
-            self.is_part(counts, self.first),
-            FaultKind::PartNotAllowed,
-            expr,
-        )
+        self.allow(self.is_part(self.first), FaultKind::PartNotAllowed, expr)
     }
 
     // The expression with two parts.
-    fn two_parts(self, counts: Counts, expr: Expr) -> Result<Expr, Fault>
-        ensures { result ≡ two_parts counts self.number self.first self.second expr }
+    fn two_parts(self, expr: Expr) -> Result<Expr, Fault>
+        ensures { result ≡ two_parts self.counts self.number self.first self.second expr }
     {
-        let ok = self.is_part(counts, self.first) && self.is_part(counts, self.second);
+        let ok = self.is_part(self.first) && self.is_part(self.second);
         self.allow(ok, FaultKind::PartNotAllowed, expr)
     }
 
     // A text of 1 to 255 bytes inside the text section.
-    fn text(self, counts: Counts) -> Result<Expr, Fault>
-        ensures { result ≡ text_record counts self.number self.first self.second }
+    fn text(self) -> Result<Expr, Fault>
+        ensures { result ≡ text_record self.counts self.number self.first self.second }
     {
-        let end = u32::from(self.first) + u32::from(self.second);
-        if (1..=255).contains(&self.second) && end <= u32::from(counts.text) {
-            let start = self.first;
-            let length = self.second as u8;
-            Ok(Expr::Text { start, length })
-        } else {
-            Err(self.fault(FaultKind::FieldOutOfRange))
+        let start = self.first;
+        let end = u32::from(start) + u32::from(self.second);
+        match u8::try_from(self.second) {
+            Ok(length) if 1 <= length && end <= u32::from(self.counts.text) => {
+                Ok(Expr::Text { start, length })
+            }
+            _ => Err(self.fault(FaultKind::FieldOutOfRange)),
         }
     }
 
@@ -78,39 +75,36 @@ impl Record {
     fn range(self) -> Result<Expr, Fault>
         ensures { result ≡ range_record self.number self.first self.second }
     {
-        if self.first <= self.second && self.second <= 255 {
-            let low = self.first as u8;
-            let high = self.second as u8;
-            Ok(Expr::Range { low, high })
-        } else {
-            Err(self.fault(FaultKind::FieldOutOfRange))
+        match (u8::try_from(self.first), u8::try_from(self.second)) {
+            (Ok(low), Ok(high)) if low <= high => Ok(Expr::Range { low, high }),
+            _ => Err(self.fault(FaultKind::FieldOutOfRange)),
         }
     }
 
     // The record's expression: its kind is known, its fields are in range, and its parts are allowed.
-    fn expr(self, counts: Counts) -> Result<Expr, Fault>
-        ensures { result ≡ expression counts self.number self.kind self.first self.second }
+    fn expr(self) -> Result<Expr, Fault>
+        ensures { result ≡ expression self.counts self.number self.kind self.first self.second }
     {
         let Record { first, second, .. } = self;
         let field = FaultKind::FieldOutOfRange;
         // The one place where the byte of a kind becomes an expression: an enum of kinds between would be matched again.
         match self.kind {
             0 => self.allow(first == 0 && second == 0, field, Expr::Empty),
-            1 => self.text(counts),
+            1 => self.text(),
             2 => self.range(),
             3 => self.allow(
-                first < counts.rules && second == 0,
+                first < self.counts.rules && second == 0,
                 field,
                 Expr::Rule { rule: first },
             ),
-            4 => self.two_parts(counts, Expr::Sequence { first, second }),
-            5 => self.two_parts(counts, Expr::Choice { first, second }),
-            6 => self.one_part(counts, Expr::Repeat { part: first }),
-            7 => self.one_part(counts, Expr::Ahead { part: first }),
-            8 => self.one_part(counts, Expr::Absent { part: first }),
-            9 => self.one_part(counts, Expr::Node { part: first }),
-            10 => self.one_part(counts, Expr::Link { part: first }),
-            11 => self.one_part(counts, Expr::Fold { part: first }),
+            4 => self.two_parts(Expr::Sequence { first, second }),
+            5 => self.two_parts(Expr::Choice { first, second }),
+            6 => self.one_part(Expr::Repeat { part: first }),
+            7 => self.one_part(Expr::Ahead { part: first }),
+            8 => self.one_part(Expr::Absent { part: first }),
+            9 => self.one_part(Expr::Node { part: first }),
+            10 => self.one_part(Expr::Link { part: first }),
+            11 => self.one_part(Expr::Fold { part: first }),
             12 => self.allow(1 <= first && second == 0, field, Expr::Tag { tag: first }),
             _ => Err(self.fault(FaultKind::UnknownKind)),
         }
@@ -130,12 +124,13 @@ impl Item for Expr {
             unreachable!()
         };
         let record = Record {
+            counts,
             number,
             kind: *kind,
             first: u16::from_be_bytes([*a1, *a0]),
             second: u16::from_be_bytes([*b1, *b0]),
         };
-        let expr = record.expr(counts)?;
+        let expr = record.expr()?;
         Ok((expr, rest))
     }
 }

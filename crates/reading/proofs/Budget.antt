@@ -1,10 +1,10 @@
 -- A smaller budget cuts a reading short or leaves it as it is, and the pairs that it then reaches are the first of the others.
-use Rattle.std.proofs.Common.{◌≡◌, ℕ, zero, suc, ◌+◌, ◌-◌, ◌<◌, ◌≤◌, min, max, Bool, true, false, ◌&&◌, eqb, ltb, leb, ◌⊎◌, List, [], ◌∷◌, ◌++◌, length, sym, refl, ap, ◌∙◌, subst, inl, inr, append_assoc, append-nil, arith}
+use Rattle.std.proofs.Common.{◌≡◌, ℕ, zero, suc, ◌-◌, ◌<◌, ◌≤◌, Bool, true, false, ◌&&◌, eqb, ltb, leb, ◌⊎◌, List, [], ◌∷◌, ◌++◌, length, sym, refl, ap, ◌∙◌, subst, inl, inr, append_assoc, append-nil, arith}
 use Rattle.std.proofs.lemmas.Bool.{leb-true, leb-false, le-leb, lt-leb, cases_lt}
 use lib.Dec.{leb-suc-suc, leb-suc-zero}
 use Rattle.reading.specs.declared.answer.Reading.{Reading}
 use Rattle.reading.specs.Tree.{Tree, body}
-use Rattle.reading.specs.Tree.Tree.{empty, text, range, rule, sequence, choice, repeat, ahead, absent, node, link, fold, tag}
+use Rattle.reading.specs.Tree.Tree.{text, range, rule, sequence, choice, repeat, ahead, absent, node, link, fold}
 use Rattle.reading.specs.Reading.{Progress, Outcome, Answer, Work, byte_at, looked, left, made, start, fits, look, spell, after, back_to, onward, turns, taken, take, work, close, read}
 use Rattle.reading.specs.Reading.Outcome.{deep, hit, miss}
 use Rattle.reading.specs.Reading.Answer.{too_deep, done}
@@ -36,13 +36,10 @@ abbrev Short : {A : Type 0} → A → A → List Pair → List Pair → Type 0
 Short o none xs ys = ((o ≡ none) × Front xs ys) ⊎ (xs ≡ ys)
 
 front_more : (xs ys zs : List Pair) → Front xs ys → Front xs (ys ++ zs)
-front_more xs ys zs f = (f.0 ++ zs, ap (λ (v : List Pair). v ++ zs) f.1 ∙ append_assoc xs f.0 zs)
-
-front_self : (xs zs : List Pair) → Front xs (xs ++ zs)
-front_self xs zs = (zs, refl)
+front_more xs ys zs f = (f.0 ++ zs, rw (f.1, append_assoc))
 
 front_both : (vs xs ys : List Pair) → Front xs ys → Front (vs ++ xs) (vs ++ ys)
-front_both vs xs ys f = (f.0, ap (λ (v : List Pair). vs ++ v) f.1 ∙ sym (append_assoc vs xs f.0))
+front_both vs xs ys f = (f.0, rw (f.1, append_assoc))
 
 -- the outcome o and the pairs xs under the budget k, where o' and xs' come under a greater one
 record Cut (k : ℕ) (o o' : Outcome) (xs xs' : List Pair) : Type 0 where
@@ -52,26 +49,16 @@ record Cut (k : ℕ) (o o' : Outcome) (xs xs' : List Pair) : Type 0 where
 abbrev Cuts : ℕ → Work → Work → Visits → Visits → Type 0
 Cuts k f f' c c' = (p : ℕ) (s : Progress) → s.height ≤ k → Cut k (f p s) (f' p s) (c p s) (c' p s)
 
-same_cut : (k : ℕ) (o : Outcome) (xs : List Pair) → o ≡ cut k o → Cut k o o xs xs
-same_cut k o xs e = record { is = e; pairs = inr refl }
-
-low_hit : (k q : ℕ) (t : Progress) → t.height ≤ k → hit q t ≡ cut k (hit q t)
-low_hit k q t l = rw (le-leb t.height k l)
-
-low_miss : (k : ℕ) (t : Progress) → t.height ≤ k → miss t ≡ cut k (miss t)
-low_miss k t l = rw (le-leb t.height k l)
-
 -- what rises from above the budget is cut
 late : (k p : ℕ) (t : Progress) (o : Outcome) → k < t.height → Rises p t o → deep ≡ cut k o
 late k p t deep l h = refl
-late k p t (hit q u) l h = let m : k < u.height = omega arith in rw (lt-leb u.height k m)
-late k p t (miss u) l h = let m : k < u.height = omega arith in rw (lt-leb u.height k m)
+late k p t _ l h = grind (arith, lt-leb)
 
 -- a part was not cut, and what follows it goes on
-on_cut : (k : ℕ) (o x x' : Outcome) (xs xs' ys ys' : List Pair) → (o ≡ deep → ⊥) → Short o deep xs xs' → Cut k x x' ys ys'
+on_cut : {k : ℕ} {x x' : Outcome} {ys ys' : List Pair} (o : Outcome) (xs xs' : List Pair) → (o ≡ deep → ⊥) → Short o deep xs xs' → Cut k x x' ys ys'
     → Cut k x x' (xs ++ ys) (xs' ++ ys')
-on_cut k o x x' xs xs' ys ys' whole (inl h) C = absurd (whole h.0)
-on_cut k o x x' xs xs' ys ys' whole (inr h) C = record { is = C.is; pairs = rw (sym h) (both C.pairs) }
+on_cut o xs xs' whole (inl h) C = absurd (whole h.0)
+on_cut {x = x} {ys = ys} {ys' = ys'} o xs xs' whole (inr h) C = record { is = C.is; pairs = rw (sym h) (both C.pairs) }
   where
     both : Short x deep ys ys' → Short x deep (xs ++ ys) (xs ++ ys')
     both (inl f) = inl (f.0, front_both xs ys ys' f.1)
@@ -83,13 +70,7 @@ end_cut k x' xs xs' zs h e = record { is = e; pairs = rw append-nil (inl (refl, 
   where
     front : Short deep deep xs xs' → Front xs (xs' ++ zs)
     front (inl f) = front_more xs xs' zs f.1
-    front (inr i) = rw (sym i) (front_self xs zs)
-
-no_hit : (q : ℕ) (t : Progress) → hit q t ≡ deep → ⊥
-no_hit q t e = let z : ◌≡◌ {A = ℕ} 0 1 = cc in omega arith
-
-no_miss : (t : Progress) → miss t ≡ deep → ⊥
-no_miss t e = let z : ◌≡◌ {A = ℕ} 0 1 = cc in omega arith
+    front (inr i) = rw (sym i) (zs, refl)
 
 -- what follows a match is cut alike, and so is what follows no match
 module _ (k : ℕ) (f f' : Work) (n n' : Progress → Outcome) (c c' : Visits) (m m' : Progress → List Pair)
@@ -98,57 +79,50 @@ module _ (k : ℕ) (f f' : Work) (n n' : Progress → Outcome) (c c' : Visits) (
   abbrev Follows : Outcome → Outcome → List Pair → List Pair → Type 0
   Follows o o' xs xs' = Cut k (after f n o) (after f' n' o') (xs ++ visited_after c m o) (xs' ++ visited_after c' m' o')
 
-  hit_cut : (q : ℕ) (t : Progress) (xs xs' : List Pair) (v : Bool) → leb t.height k ≡ v → Short (kept v (hit q t)) deep xs xs'
-      → Follows (kept v (hit q t)) (hit q t) xs xs'
-  hit_cut q t xs xs' true e h =
-      on_cut k (hit q t) (f q t) (f' q t) xs xs' (c q t) (c' q t) (no_hit q t) h (F q t (leb-true t.height k e))
-  hit_cut q t xs xs' false e h =
-      end_cut k (f' q t) xs xs' (c' q t) h (late k q t (f' q t) (leb-false t.height k e) (rises q t))
-
-  miss_cut : (t : Progress) (xs xs' : List Pair) (v : Bool) → leb t.height k ≡ v → Short (kept v (miss t)) deep xs xs'
-      → Follows (kept v (miss t)) (miss t) xs xs'
-  miss_cut t xs xs' true e h =
-      on_cut k (miss t) (n t) (n' t) xs xs' (m t) (m' t) (no_miss t) h (N t (leb-true t.height k e))
-  miss_cut t xs xs' false e h =
-      end_cut k (n' t) xs xs' (m' t) h (late k 0 t (n' t) (leb-false t.height k e) (rises_miss t))
+  kept_cut : (o : Outcome) (t : Progress) → (o ≡ deep → ⊥)
+      → (t.height ≤ k → Cut k (after f n o) (after f' n' o) (visited_after c m o) (visited_after c' m' o)) → (k < t.height → deep ≡ cut k (after f' n' o))
+      → (xs xs' : List Pair) (v : Bool) → leb t.height k ≡ v → Short (kept v o) deep xs xs' → Follows (kept v o) o xs xs'
+  kept_cut o t whole F L xs xs' true e h = on_cut o xs xs' whole h (F (leb-true t.height k e))
+  kept_cut o t whole F L xs xs' false e h = end_cut k (after f' n' o) xs xs' (visited_after c' m' o) h (L (leb-false t.height k e))
 
   by_cut : (o' : Outcome) (xs xs' : List Pair) → Short (cut k o') deep xs xs' → Follows (cut k o') o' xs xs'
   by_cut deep xs xs' h = end_cut k deep xs xs' [] h refl
-  by_cut (hit q t) xs xs' h = hit_cut q t xs xs' (leb t.height k) refl h
-  by_cut (miss t) xs xs' h = miss_cut t xs xs' (leb t.height k) refl h
+  by_cut (hit q t) xs xs' h =
+      kept_cut (hit q t) t (λ e. cc) (F q t) (λ l. late k q t (f' q t) l (rises q t)) xs xs' (leb t.height k) refl h
+  by_cut (miss t) xs xs' h =
+      kept_cut (miss t) t (λ e. cc) (N t) (λ l. late k 0 t (n' t) l (rises_miss t)) xs xs' (leb t.height k) refl h
 
-  after_cut : (o o' : Outcome) (xs xs' : List Pair) → Cut k o o' xs xs' → Follows o o' xs xs'
-  after_cut o o' xs xs' C =
+  after_cut : {o o' : Outcome} {xs xs' : List Pair} → Cut k o o' xs xs' → Follows o o' xs xs'
+  after_cut {o' = o'} {xs = xs} {xs' = xs'} C =
       subst (λ (x : Outcome). Short x deep xs xs' → Follows x o' xs xs') (sym C.is) (by_cut o' xs xs') C.pairs
 
 -- what follows reaches no further pair
 quiet : (o : Outcome) (xs : List Pair) → xs ++ visited_after (λ q t. []) (λ t. []) o ≡ xs
 quiet deep xs = append-nil xs
-quiet (hit q t) xs = append-nil xs
-quiet (miss t) xs = append-nil xs
+quiet _ xs = append-nil xs
 
 module _ (k : ℕ) (f f' : Work) (n n' : Progress → Outcome)
     (F : Cuts k f f' (λ q t. []) (λ q t. [])) (N : (t : Progress) → t.height ≤ k → Cut k (n t) (n' t) [] [])
     (rises : (q : ℕ) (t : Progress) → Rises q t (f' q t)) (rises_miss : (t : Progress) → Rises 0 t (n' t)) where
-  quiet_cut : (o o' : Outcome) (xs xs' : List Pair) → Cut k o o' xs xs' → Cut k (after f n o) (after f' n' o') xs xs'
-  quiet_cut o o' xs xs' C =
+  quiet_cut : {o o' : Outcome} {xs xs' : List Pair} → Cut k o o' xs xs' → Cut k (after f n o) (after f' n' o') xs xs'
+  quiet_cut {o = o} {o' = o'} {xs = xs} {xs' = xs'} C =
       rw (quiet o xs, quiet o' xs') at
-      (after_cut k f f' n n' (λ q t. []) (λ q t. []) (λ t. []) (λ t. []) F N rises rises_miss o o' xs xs' C)
+      (after_cut k f f' n n' (λ q t. []) (λ q t. []) (λ t. []) (λ t. []) F N rises rises_miss C)
 
-module _ (k : ℕ) (w : List ℕ) where
+module _ (k : ℕ) where
   hit_stays : (p : ℕ) (t : Progress) (xs : List Pair) → t.height ≤ k → Cut k (hit p t) (hit p t) xs xs
-  hit_stays p t xs l = same_cut k (hit p t) xs (low_hit k p t l)
+  hit_stays p t xs l = record { is = rw (le-leb t.height k l); pairs = inr refl }
 
   miss_stays : (t : Progress) (xs : List Pair) → t.height ≤ k → Cut k (miss t) (miss t) xs xs
-  miss_stays t xs l = same_cut k (miss t) xs (low_miss k t l)
+  miss_stays t xs l = record { is = rw (le-leb t.height k l); pairs = inr refl }
 
   look_cut : (v : Bool) (f : Work) → Cuts k f f (λ p s. []) (λ p s. []) → Cuts k (look v f) (look v f) (λ p s. []) (λ p s. [])
   look_cut true f F p s l = F (suc p) (looked p s) l
   look_cut false f F p s l = miss_stays (looked p s) [] l
 
-  spell_cut : (cs : List ℕ) → Cuts k (spell w cs) (spell w cs) (λ p s. []) (λ p s. [])
-  spell_cut [] p s l = hit_stays p s [] l
-  spell_cut (c ∷ cs) p s l = look_cut (fits (λ x. eqb x c) (byte_at w p)) (spell w cs) (spell_cut cs) p s l
+  spell_cut : (w cs : List ℕ) → Cuts k (spell w cs) (spell w cs) (λ p s. []) (λ p s. [])
+  spell_cut w [] p s l = hit_stays p s [] l
+  spell_cut w (c ∷ cs) p s l = look_cut (fits (λ x. eqb x c) (byte_at w p)) (spell w cs) (spell_cut w cs) p s l
 
   onward_cut : (v : Bool) (f f' : Work) (c c' : Visits) → Cuts k f f' c c'
       → Cuts k (onward v f) (onward v f') (visited_onward v c) (visited_onward v c')
@@ -164,26 +138,20 @@ module _ (k : ℕ) (w : List ℕ) where
       (λ q. visited_onward (ltb p q) (visited_in_turns m f c) q) (λ q. visited_onward (ltb p q) (visited_in_turns m f' c') q) (λ t. []) (λ t. [])
       (λ q. onward_cut (ltb p q) (turns m f) (turns m f') (visited_in_turns m f c) (visited_in_turns m f' c') (turns_cut m f f' c c' F R) q)
       (λ t. hit_stays p (left s.nodes t) [])
-      (λ q. onward_rises (ltb p q) (turns m f') (turns_rises m f' R) q) (λ t. omega arith)
-      (f p s) (f' p s) (c p s) (c' p s) (F p s l)
+      (λ q. onward_rises (ltb p q) (turns m f') (turns_rises m f' R) q) (λ t. omega arith) (F p s l)
 
   taken_cut : (s : Progress) (d : Reading) (v : Bool) (xs : List Pair) → s.height ≤ k → d.height ≤ k → Cut k (taken s d v) (taken s d v) xs xs
-  taken_cut s d true xs l m =
-      hit_stays d.end (record { height = max s.height d.height; reach = max s.reach d.reach; nodes = min 65535 (s.nodes + d.nodes) }) xs (omega arith)
-  taken_cut s d false xs l m =
-      miss_stays (record { height = max s.height d.height; reach = max s.reach d.reach; nodes = s.nodes }) xs (omega arith)
+  taken_cut s d true xs l m = hit_stays d.end _ xs (omega arith)
+  taken_cut s d false xs l m = miss_stays _ xs (omega arith)
 
   taken_late : (s : Progress) (d : Reading) (v : Bool) → k < d.height → deep ≡ cut k (taken s d v)
-  taken_late s d true l = late k 0 (record { height = d.height; reach = 0; nodes = 0 }) (taken s d true) l (omega arith)
-  taken_late s d false l = late k 0 (record { height = d.height; reach = 0; nodes = 0 }) (taken s d false) l (omega arith)
+  taken_late s d true l = grind (arith, lt-leb)
+  taken_late s d false l = grind (arith, lt-leb)
 
 -- the answer x of a rule and the pairs xs under the budget k, where x' and xs' come under a greater one
 record RuleCut (k : ℕ) (x x' : Answer) (xs xs' : List Pair) : Type 0 where
   is : x ≡ cut_answer k x'
   pairs : Short x too_deep xs xs'
-
-not_deep : (d : Reading) → done d ≡ too_deep → ⊥
-not_deep d e = let z : ◌≡◌ {A = ℕ} 0 1 = cc in omega arith
 
 -- which outcome was cut does not matter to the pairs
 short_deep : (xs ys : List Pair) → Short too_deep too_deep xs ys → Short deep deep xs ys
@@ -191,56 +159,50 @@ short_deep xs ys (inl f) = inl (refl, f.1)
 short_deep xs ys (inr e) = inr e
 
 short_whole : (d : Reading) (xs ys : List Pair) → Short (done d) too_deep xs ys → xs ≡ ys
-short_whole d xs ys (inl f) = absurd (not_deep d f.0)
+short_whole d xs ys (inl f) = cc
 short_whole d xs ys (inr e) = e
 
-module _ (k : ℕ) (w : List ℕ) (s : Progress) (l : s.height ≤ k) where
+module _ (k : ℕ) (s : Progress) (l : s.height ≤ k) where
   done_cut : (d : Reading) (xs xs' : List Pair) (v : Bool) → leb d.height k ≡ v → Short (kept_answer v d) too_deep xs xs'
       → Cut k (take s (kept_answer v d)) (take s (done d)) xs xs'
-  done_cut d xs xs' true e h =
-      rw (short_whole d xs xs' h) (taken_cut k w s d d.matched xs' l (leb-true d.height k e))
-  done_cut d xs xs' false e h =
-      record { is = taken_late k w s d d.matched (leb-false d.height k e); pairs = short_deep xs xs' h }
+  done_cut d xs xs' true e h = rw (short_whole d xs xs' h) (taken_cut k s d d.matched xs' l (leb-true d.height k e))
+  done_cut d xs xs' false e h = record { is = taken_late k s d d.matched (leb-false d.height k e); pairs = short_deep xs xs' h }
 
   by_answer : (x' : Answer) (xs xs' : List Pair) → Short (cut_answer k x') too_deep xs xs' → Cut k (take s (cut_answer k x')) (take s x') xs xs'
   by_answer too_deep xs xs' h = record { is = refl; pairs = short_deep xs xs' h }
   by_answer (done d) xs xs' h = done_cut d xs xs' (leb d.height k) refl h
 
-  take_cut : (x x' : Answer) (xs xs' : List Pair) → RuleCut k x x' xs xs' → Cut k (take s x) (take s x') xs xs'
-  take_cut x x' xs xs' C =
+  take_cut : {x x' : Answer} {xs xs' : List Pair} → RuleCut k x x' xs xs' → Cut k (take s x) (take s x') xs xs'
+  take_cut {x' = x'} {xs = xs} {xs' = xs'} C =
       subst (λ (y : Answer). Short y too_deep xs xs' → Cut k (take s y) (take s x') xs xs') (sym C.is) (by_answer x' xs xs') C.pairs
 
 module _ (k : ℕ) (w : List ℕ) (ask ask' : ℕ → ℕ → Answer) (c c' : ℕ → ℕ → List Pair)
     (A : (r p : ℕ) → RuleCut k (ask r p) (ask' r p) (c r p) (c' r p)) where
   work_cut : (t : Tree) → Cuts k (work w ask t) (work w ask' t) (visited w ask c t) (visited w ask' c' t)
-  work_cut empty p s l = hit_stays k w p s [] l
   work_cut (text cs) p s l = spell_cut k w cs p s l
   work_cut (range low high) p s l =
-      look_cut k w (fits (λ x. leb low x && leb x high) (byte_at w p)) hit (λ q t m. hit_stays k w q t [] m) p s l
-  work_cut (rule r) p s l = take_cut k w s l (ask r p) (ask' r p) (c r p) (c' r p) (A r p)
+      look_cut k (fits (λ x. leb low x && leb x high) (byte_at w p)) hit (λ q t m. hit_stays k q t [] m) p s l
+  work_cut (rule r) p s l = take_cut k s l (A r p)
   work_cut (sequence a b) p s l =
       after_cut k (work w ask b) (work w ask' b) miss miss (visited w ask c b) (visited w ask' c' b) (λ t. []) (λ t. [])
-      (work_cut b) (λ t. miss_stays k w t []) (work_rises w ask' b) (λ t. omega arith)
-      (work w ask a p s) (work w ask' a p s) (visited w ask c a p s) (visited w ask' c' a p s) (work_cut a p s l)
+      (work_cut b) (λ t. miss_stays k t []) (work_rises w ask' b) (λ t. omega arith) (work_cut a p s l)
   work_cut (choice a b) p s l =
       after_cut k hit hit (back_to p s.nodes (work w ask b)) (back_to p s.nodes (work w ask' b)) (λ q t. []) (λ q t. [])
       (visited_back_at p s.nodes (visited w ask c b)) (visited_back_at p s.nodes (visited w ask' c' b))
-      (λ q t. hit_stays k w q t []) (λ t. work_cut b p (left s.nodes t)) (λ q t. omega arith) (λ t. work_rises w ask' b p (left s.nodes t))
-      (work w ask a p s) (work w ask' a p s) (visited w ask c a p s) (visited w ask' c' a p s) (work_cut a p s l)
+      (λ q t. hit_stays k q t []) (λ t. work_cut b p (left s.nodes t)) (λ q t. omega arith) (λ t. work_rises w ask' b p (left s.nodes t))
+      (work_cut a p s l)
   work_cut (repeat a) p s l =
-      turns_cut k w (suc (length w - p)) (work w ask a) (work w ask' a) (visited w ask c a) (visited w ask' c' a) (work_cut a) (work_rises w ask' a) p s l
+      turns_cut k (suc (length w - p)) (work w ask a) (work w ask' a) (visited w ask c a) (visited w ask' c' a) (work_cut a) (work_rises w ask' a) p s l
   work_cut (ahead a) p s l =
       quiet_cut k (λ q. back_to p s.nodes hit) (λ q. back_to p s.nodes hit) miss miss
-      (λ q t. hit_stays k w p (left s.nodes t) []) (λ t. miss_stays k w t []) (λ q t. omega arith) (λ t. omega arith)
-      (work w ask a p s) (work w ask' a p s) (visited w ask c a p s) (visited w ask' c' a p s) (work_cut a p s l)
+      (λ q t. hit_stays k p (left s.nodes t) []) (λ t. miss_stays k t []) (λ q t. omega arith) (λ t. omega arith) (work_cut a p s l)
   work_cut (absent a) p s l =
       quiet_cut k (λ q. miss) (λ q. miss) (back_to p s.nodes hit) (back_to p s.nodes hit)
-      (λ q t. miss_stays k w t []) (λ t. hit_stays k w p (left s.nodes t) []) (λ q t. omega arith) (λ t. omega arith)
-      (work w ask a p s) (work w ask' a p s) (visited w ask c a p s) (visited w ask' c' a p s) (work_cut a p s l)
+      (λ q t. miss_stays k t []) (λ t. hit_stays k p (left s.nodes t) []) (λ q t. omega arith) (λ t. omega arith) (work_cut a p s l)
   work_cut (node a) p s l = work_cut a p (made s) l
   work_cut (link a) p s l = work_cut a p s l
   work_cut (fold a) p s l = work_cut a p (made s) l
-  work_cut (tag n) p s l = hit_stays k w p s [] l
+  work_cut _ p s l = hit_stays k p s [] l
 
 -- Rules.
 
@@ -255,8 +217,7 @@ close_cut k p (miss t) = rw leb-suc-suc (close_kept p (miss t) _ refl (leb t.hei
 
 close_none : (p : ℕ) (o : Outcome) → too_deep ≡ cut_answer 0 (close p o)
 close_none p deep = refl
-close_none p (hit q t) = rw leb-suc-zero
-close_none p (miss t) = rw leb-suc-zero
+close_none p _ = rw leb-suc-zero
 
 close_short : (r p : ℕ) (o : Outcome) (xs ys : List Pair) → Short o deep xs ys → Short (close p o) too_deep ((r, p) ∷ xs) ((r, p) ∷ ys)
 close_short r p o xs ys (inl f) = inl (ap (close p) f.0, front_both ((r, p) ∷ []) xs ys f.1)
@@ -284,10 +245,10 @@ read_cut g w (suc k) (suc j) l r p =
 module _ (g : List Tree) (w : List ℕ) (k r p : ℕ) (d : Reading) (e : read g w k r p ≡ done d) where
   -- an answer that a budget left whole
   whole : (j : ℕ) (x : Answer) → done d ≡ cut_answer j x → (x ≡ done d) × (d.height ≤ j)
-  whole j too_deep c = absurd (not_deep d c)
+  whole j too_deep c = cc
   whole j (done f) c = elim (cases_lt j f.height) [
-    | inl l ↦ absurd (not_deep d (c ∙ rw (lt-leb f.height j l)))
-    | inr l ↦ let i : done d ≡ done f = c ∙ rw (le-leb f.height j l) in (sym i, let h : d.height ≡ f.height = cc in omega arith)
+    | inl l ↦ cc (lt-leb f.height j l)
+    | inr l ↦ grind (arith, le-leb f.height j l)
   ]
 
   most : d.height ≤ k
@@ -307,13 +268,13 @@ module _ (g : List Tree) (w : List ℕ) (k r p : ℕ) (d : Reading) (e : read g 
   short j l = under j (omega (arith, most)) ∙ rw (lt-leb d.height j l)
 
   least : 1 ≤ d.height
-  least = elim (cases_lt 0 d.height) [ inl l ↦ l | inr l ↦ absurd (not_deep d (sym (enough 0 l))) ]
+  least = elim (cases_lt 0 d.height) [ inl l ↦ l | inr l ↦ cc (enough 0 l) ]
 
   -- pairs of a reading that is whole under both budgets
   equal : (i j : ℕ) → i ≤ j → read g w i r p ≡ done d → reached g w i r p ≡ reached g w j r p
   equal i j l f =
       short_whole d (reached g w i r p) (reached g w j r p)
-      (subst (λ (x : Answer). Short x too_deep (reached g w i r p) (reached g w j r p)) f (read_cut g w i j l r p).pairs)
+      (rw f at (read_cut g w i j l r p).pairs)
 
   all_pairs : (j : ℕ) → d.height ≤ j → reached g w j r p ≡ reached g w k r p
   all_pairs j l = elim (cases_lt j k) [ inl m ↦ equal j k (omega arith) (enough j l) | inr m ↦ sym (equal k j m e) ]

@@ -1,24 +1,21 @@
 -- What the relation derives, plain reading comes to under every budget that is high enough.
-use Rattle.std.proofs.Common.{◌≡◌, ℕ, zero, suc, ◌+◌, ◌-◌, ◌<◌, ◌≤◌, min, max, Bool, true, false, ◌&&◌, eqb, ltb, leb, List, [], ◌∷◌, length, Some, sym, refl, ap, ◌∙◌, subst, arith}
-use Rattle.std.proofs.lemmas.Bool.{eqb-true, eq-eqb, leb-true, le-leb, lt-ltb, ltb-true, and_parts, and_from}
+use Rattle.std.proofs.Common.{◌≡◌, ℕ, zero, suc, ◌-◌, ◌<◌, ◌≤◌, max, Bool, true, false, ◌&&◌, eqb, ltb, leb, List, [], ◌∷◌, length, Some, refl, ap, ◌∙◌, inl, inr, arith}
+use Rattle.std.proofs.lemmas.Bool.{eqb-true, eq-eqb, leb-true, le-leb, lt-ltb, le-ltb, cases_lt, and_parts, and_from}
+use Rattle.std.proofs.lemmas.Option.{slice_get_within}
 use Rattle.reading.specs.Tree.{Tree, body}
 use Rattle.reading.specs.Reading.{Progress, Outcome, Work, cap, byte_at, looked, left, made, start, fits, look, spell, after, back_to, onward, turns, take, work, close, read}
-use Rattle.reading.specs.Reading.Outcome.{deep, hit, miss}
+use Rattle.reading.specs.Reading.Outcome.{hit, miss}
 use Rattle.reading.specs.Semantics.{Came, Comes, behind, closed}
 use Rattle.reading.specs.Semantics.Came.{matched, failed}
-use Rattle.reading.proofs.Induction.{fits_inside}
-use Rattle.reading.proofs.Positions.{Stayed, work_stays, read_stays}
+use Rattle.reading.proofs.Positions.{Stayed, part_stays, part_ends}
 use Rattle.reading.proofs.Moves.{Moves, Moving}
-use Rattle.reading.proofs.Sound.{Grown, stay, grow_on, Fits, fitting}
+use Rattle.reading.proofs.Sound.{Grown, stay, grow_on, look_grown, made_grown, back_grown, Fits, fitting}
 
 -- an outcome is what the relation says, behind the progress s
 abbrev pub Agrees : Progress → Came → Outcome → Type 0
-Agrees s (matched q h l n) deep = ⊥
 Agrees s (matched q h l n) (hit r u) = (r ≡ q) × Grown s u h l n
-Agrees s (matched q h l n) (miss u) = ⊥
-Agrees s (failed h l) deep = ⊥
-Agrees s (failed h l) (hit r u) = ⊥
 Agrees s (failed h l) (miss u) = (u.height ≡ max s.height h) × (u.reach ≡ max s.reach l)
+Agrees s _ _ = ⊥
 
 abbrev pub height_of : Came → ℕ
 height_of (matched q h l n) = h
@@ -33,40 +30,20 @@ closed_height p (matched q h l n) = refl
 closed_height p (failed h l) = refl
 
 -- a part came before
-agrees_behind : (s u : Progress) (h l n : ℕ) → Grown s u h l n → (x : Came) (o : Outcome) → Agrees u x o → Agrees s (behind h l n x) o
-agrees_behind s u h l n G (matched q h' l' n') deep E = E
-agrees_behind s u h l n G (matched q h' l' n') (hit r v) E = (E.0, grow_on s u v h l n h' l' n' G E.1)
-agrees_behind s u h l n G (matched q h' l' n') (miss v) E = E
-agrees_behind s u h l n G (failed h' l') deep E = E
-agrees_behind s u h l n G (failed h' l') (hit r v) E = E
-agrees_behind s u h l n G (failed h' l') (miss v) E =
-    let a = E.0 in let b = E.1 in let c = G.height in let d = G.reach in (omega arith, omega arith)
-
--- back where it began
-agrees_back : (s u : Progress) (h l : ℕ) → s.nodes ≤ cap → (u.height ≡ max s.height h) × (u.reach ≡ max s.reach l) → Grown s (left s.nodes u) h l 0
-agrees_back s u h l c E = record { height = E.0; reach = E.1; nodes = omega arith }
+agrees_behind : {s u : Progress} {h l n : ℕ} → Grown s u h l n → (x : Came) (o : Outcome) → Agrees u x o → Agrees s (behind h l n x) o
+agrees_behind {s = s} {u = u} {h = h} {l = l} {n = n} G (matched q h' l' n') (hit r v) E = (E.0, grow_on s u v h l n h' l' n' G E.1)
+agrees_behind G (failed h' l') (miss v) E = (omega arith, omega arith)
+agrees_behind G _ _ E = absurd E
 
 close_agrees : (p : ℕ) (s : Progress) (x : Came) (o : Outcome) → Agrees (start p) x o → Agrees s (closed p x) (take s (close p o))
-close_agrees p s (matched q h l n) deep E = E
-close_agrees p s (matched q h l n) (hit r u) E =
-    let a : u.height ≡ max 0 h = E.1.height in
-    let b : u.reach ≡ max p l = E.1.reach in
-    let c : u.nodes ≡ min cap (0 + n) = E.1.nodes in
-    (E.0, record { height = omega arith; reach = omega arith; nodes = omega arith })
-close_agrees p s (matched q h l n) (miss u) E = absurd E
-close_agrees p s (failed h l) deep E = E
-close_agrees p s (failed h l) (hit r u) E = absurd E
-close_agrees p s (failed h l) (miss u) E =
-    let a : u.height ≡ max 0 h = E.0 in let b : u.reach ≡ max p l = E.1 in (omega arith, omega arith)
+close_agrees p s (matched q h l n) (hit r u) E = (E.0, record { height = omega arith; reach = omega arith; nodes = omega arith })
+close_agrees p s (failed h l) (miss u) E = (omega arith, omega arith)
+close_agrees p s _ _ E = absurd E
 
 -- More turns than there are bytes left make no difference.
 
-onward_same : (n p q : ℕ) (u : Progress) (f g : Work) → (p < q → f q u ≡ g q u) → onward (ltb p q) f q u ≡ onward (ltb p q) g q u
-onward_same n p q u f g e = by (ltb p q) refl
-  where
-    by : (v : Bool) → ltb p q ≡ v → onward v f q u ≡ onward v g q u
-    by true i = e (ltb-true p q i)
-    by false i = refl
+onward_same : (p q : ℕ) (u : Progress) (f g : Work) → (p < q → f q u ≡ g q u) → onward (ltb p q) f q u ≡ onward (ltb p q) g q u
+onward_same p q u f g e = elim (cases_lt p q) [ inl l ↦ rw (lt-ltb p q l) (e l) | inr l ↦ rw (le-ltb p q l) ]
 
 turns_same : (n : ℕ) (f : Work) → ((p : ℕ) (s : Progress) → p ≤ n → Stayed n p s (f p s))
     → (m m' p : ℕ) (s : Progress) → p ≤ n → n - p < m → n - p < m' → turns m f p s ≡ turns m' f p s
@@ -77,14 +54,10 @@ turns_same n f S (suc m) (suc m') p s l h h' =
   where
     by : (o : Outcome) → Stayed n p s o → ((q : ℕ) (u : Progress) → p < q → q ≤ n → turns m f q u ≡ turns m' f q u)
         → after (λ q. onward (ltb p q) (turns m f) q) (back_to p s.nodes hit) o ≡ after (λ q. onward (ltb p q) (turns m' f) q) (back_to p s.nodes hit) o
-    by deep Y e = refl
-    by (hit q u) Y e = onward_same n p q u (turns m f) (turns m' f) (λ i. e q u i Y.ends)
-    by (miss u) Y e = refl
+    by (hit q u) Y e = onward_same p q u (turns m f) (turns m' f) (λ i. e q u i Y.ends)
+    by _ Y e = refl
 
 module _ (g : List Tree) (w : List ℕ) (M : (r : ℕ) → Moving g (body g r)) where
-  stays : (k : ℕ) (t : Tree) (p : ℕ) (s : Progress) → p ≤ length w → Stayed (length w) p s (work w (read g w k) t p s)
-  stays k t p s l = work_stays w (read g w k) (read_stays g w k) t p s l
-
   -- t at p comes to x under every budget that is high enough
   abbrev pub Full : Tree → ℕ → Came → Type 0
   Full t p x = (k : ℕ) (s : Progress) → height_of x ≤ k → p ≤ length w → s.nodes ≤ cap → Agrees s x (work w (read g w k) t p s)
@@ -103,24 +76,20 @@ module _ (g : List Tree) (w : List ℕ) (M : (r : ℕ) → Moving g (body g r)) 
       by true i = let F : Fits [] w test p = fitting [] w test p i in absurd (e F.byte F.there F.passes)
       by false i = refl
 
-  inside : (p x : ℕ) → byte_at w p ≡ Some x → p < length w
-  inside p x e = fits_inside w p (λ y. true) (ap (fits (λ y. true)) e)
-
   text_same_full : (b p : ℕ) (cs : List ℕ) (x : Came) → byte_at w p ≡ Some b → Full (Tree.text cs) (suc p) x
       → Full (Tree.text (b ∷ cs)) p (behind 0 (suc p) 0 x)
   text_same_full b p cs x e F k s h l c =
-      subst (λ (o : Outcome). Agrees s (behind 0 (suc p) 0 x) o) (sym (found (λ y. eqb y b) (spell w cs) p b s e (eq-eqb b b refl)))
-      (agrees_behind s (looked p s) 0 (suc p) 0 (record { height = omega arith; reach = refl; nodes = omega arith }) x (spell w cs (suc p) (looked p s))
-      (F k (looked p s) (omega (arith, behind_height 0 (suc p) 0 x)) (inside p b e) c))
+      rw (found (λ y. eqb y b) (spell w cs) p b s e (eq-eqb b b refl))
+      (agrees_behind (look_grown p s c) x _
+      (F k (looked p s) (omega (arith, behind_height 0 (suc p) 0 x)) (slice_get_within w p b e) c))
 
   missed : (t : Tree) (p : ℕ) (k : ℕ) (s : Progress) → work w (read g w k) t p s ≡ miss (looked p s) → Agrees s (failed 0 (suc p)) (work w (read g w k) t p s)
-  missed t p k s e = subst (λ (o : Outcome). Agrees s (failed 0 (suc p)) o) (sym e) (omega arith, refl)
+  missed t p k s e = rw e (omega arith, refl)
 
   range_in_full : (low high p b : ℕ) → byte_at w p ≡ Some b → low ≤ b → b ≤ high → Full (Tree.range low high) p (matched (suc p) 0 (suc p) 0)
   range_in_full low high p b e i j k s h l c =
-      subst (λ (o : Outcome). Agrees s (matched (suc p) 0 (suc p) 0) o)
-      (sym (found (λ y. leb low y && leb y high) hit p b s e (and_from (leb low b) (leb b high) (le-leb low b i) (le-leb b high j))))
-      (refl, record { height = omega arith; reach = refl; nodes = omega arith })
+      rw (found (λ y. leb low y && leb y high) hit p b s e (and_from (leb low b) (leb b high) (le-leb low b i) (le-leb b high j)))
+      (refl, look_grown p s c)
 
   range_out_full : (low high p : ℕ) → ((x : ℕ) → byte_at w p ≡ Some x → low ≤ x → x ≤ high → ⊥) → Full (Tree.range low high) p (failed 0 (suc p))
   range_out_full low high p e k s h l c =
@@ -132,45 +101,35 @@ module _ (g : List Tree) (w : List ℕ) (M : (r : ℕ) → Moving g (body g r)) 
   rule_full : (r p : ℕ) (x : Came) → Full (body g r) p x → Full (Tree.rule r) p (closed p x)
   rule_full r p x F zero s h l c = absurd (omega (arith, closed_height p x))
   rule_full r p x F (suc k) s h l c =
-      close_agrees p s x (work w (read g w k) (body g r) p (start p)) (F k (start p) (omega (arith, closed_height p x)) l (omega arith))
+      close_agrees p s x _ (F k (start p) (omega (arith, closed_height p x)) l (omega arith))
 
   -- Expressions: the part's outcome is known, and what follows it.
 
-  behind_match : (f : Work) (n : Progress → Outcome) (p q : ℕ) (s : Progress) (h l m : ℕ) (x : Came) (o : Outcome) → Agrees s (matched q h l m) o
+  behind_match : (f : Work) (n : Progress → Outcome) (q : ℕ) (s : Progress) (h l m : ℕ) (x : Came) (o : Outcome) → Agrees s (matched q h l m) o
       → ((u : Progress) → o ≡ hit q u → Grown s u h l m → Agrees s x (f q u)) → Agrees s x (after f n o)
-  behind_match f n p q s h l m x deep E F = absurd E
-  behind_match f n p q s h l m x (hit r u) E F =
-      subst (λ (v : ℕ). Agrees s x (f v u)) (sym E.0) (F u (ap (λ (v : ℕ). hit v u) E.0) E.1)
-  behind_match f n p q s h l m x (miss u) E F = absurd E
+  behind_match f n q s h l m x (hit r u) E F = rw E.0 (F u (ap (λ (v : ℕ). hit v u) E.0) E.1)
+  behind_match f n q s h l m x _ E F = absurd E
 
   behind_fail : (f : Work) (n : Progress → Outcome) (s : Progress) (h l : ℕ) (x : Came) (o : Outcome) → Agrees s (failed h l) o
       → ((u : Progress) → (u.height ≡ max s.height h) × (u.reach ≡ max s.reach l) → Agrees s x (n u)) → Agrees s x (after f n o)
-  behind_fail f n s h l x deep E N = absurd E
-  behind_fail f n s h l x (hit r u) E N = absurd E
   behind_fail f n s h l x (miss u) E N = N u E
-
-  few : (s u : Progress) (h l n : ℕ) → Grown s u h l n → u.nodes ≤ cap
-  few s u h l n G = let e = G.nodes in omega arith
-
-  ended : (k : ℕ) (t : Tree) (p q : ℕ) (s u : Progress) → p ≤ length w → work w (read g w k) t p s ≡ hit q u → q ≤ length w
-  ended k t p q s u l e =
-      let S : Stayed (length w) p s (hit q u) = subst (λ (o : Outcome). Stayed (length w) p s o) e (stays k t p s l) in S.ends
+  behind_fail f n s h l x _ E N = absurd E
 
   sequence_full : (a b : Tree) (p q h l n : ℕ) (x : Came) → Full a p (matched q h l n) → Full b q x → Full (Tree.sequence a b) p (behind h l n x)
   sequence_full a b p q h l n x A B k s i j c =
-      behind_match (work w (read g w k) b) miss p q s h l n (behind h l n x) (work w (read g w k) a p s) (A k s (omega (arith, behind_height h l n x)) j c)
-      (λ u e G. agrees_behind s u h l n G x (work w (read g w k) b q u)
-      (B k u (omega (arith, behind_height h l n x)) (ended k a p q s u j e) (few s u h l n G)))
+      behind_match (work w (read g w k) b) miss q s h l n (behind h l n x) (work w (read g w k) a p s) (A k s (omega (arith, behind_height h l n x)) j c)
+      (λ u e G. agrees_behind G x _
+      (B k u (omega (arith, behind_height h l n x)) (part_ends g w k a p s q u j e) (omega arith)))
 
   choice_second_full : (a b : Tree) (p h l : ℕ) (x : Came) → Full a p (failed h l) → Full b p x → Full (Tree.choice a b) p (behind h l 0 x)
   choice_second_full a b p h l x A B k s i j c =
       behind_fail hit (back_to p s.nodes (work w (read g w k) b)) s h l (behind h l 0 x) (work w (read g w k) a p s) (A k s (omega (arith, behind_height h l 0 x)) j c)
-      (λ u E. agrees_behind s (left s.nodes u) h l 0 (agrees_back s u h l c E) x (work w (read g w k) b p (left s.nodes u))
+      (λ u E. agrees_behind (back_grown s u h l c E.0 E.1) x _
       (B k (left s.nodes u) (omega (arith, behind_height h l 0 x)) j c))
 
   repeat_full : (a : Tree) (p q h l n : ℕ) (x : Came) → Moves g a → Full a p (matched q h l n) → Full (Tree.repeat a) q x → Full (Tree.repeat a) p (behind h l n x)
   repeat_full a p q h l n x m A B k s i j c =
-      behind_match (λ r. onward (ltb p r) (turns (length w - p) part) r) (back_to p s.nodes hit) p q s h l n (behind h l n x) (part p s)
+      behind_match (λ r. onward (ltb p r) (turns (length w - p) part) r) (back_to p s.nodes hit) q s h l n (behind h l n x) (part p s)
       (A k s (omega (arith, behind_height h l n x)) j c) next
     where
       part : Work
@@ -179,25 +138,18 @@ module _ (g : List Tree) (w : List ℕ) (M : (r : ℕ) → Moving g (body g r)) 
       next : (u : Progress) → part p s ≡ hit q u → Grown s u h l n → Agrees s (behind h l n x) (onward (ltb p q) (turns (length w - p) part) q u)
       next u e G =
           let moved : p < q = m w k p s q u j e in
-          let in-input : q ≤ length w = ended k a p q s u j e in
+          let in-input : q ≤ length w = part_ends g w k a p s q u j e in
           let same : turns (length w - p) part q u ≡ turns (suc (length w - q)) part q u =
-          turns_same (length w) part (stays k a) (length w - p) (suc (length w - q)) q u in-input (omega arith) (omega arith) in
+          turns_same (length w) part (part_stays g w k a) (length w - p) (suc (length w - q)) q u in-input (omega arith) (omega arith) in
           rw (lt-ltb p q moved, same)
-          (agrees_behind s u h l n G x (turns (suc (length w - q)) part q u)
-          (B k u (omega (arith, behind_height h l n x)) in-input (few s u h l n G)))
-
-  -- the part's match leaves the position, or its failure is one
-  rest_match : (f : Work) (n : Progress → Outcome) (p q : ℕ) (s : Progress) (h l m : ℕ) (o : Outcome) → s.nodes ≤ cap → Agrees s (matched q h l m) o
-      → ((u : Progress) → f q u ≡ hit p (left s.nodes u)) → Agrees s (matched p h l 0) (after f n o)
-  rest_match f n p q s h l m o c E e =
-      behind_match f n p q s h l m (matched p h l 0) o E
-      (λ u i G. rw (e u) (refl, record { height = G.height; reach = G.reach; nodes = omega arith }))
+          (agrees_behind G x _
+          (B k u (omega (arith, behind_height h l n x)) in-input (omega arith)))
 
   -- a node is counted before its part
   made_full : (a : Tree) (p : ℕ) (x : Came) → Full a p x → (k : ℕ) (s : Progress) → height_of (behind 0 0 1 x) ≤ k → p ≤ length w → s.nodes ≤ cap
       → Agrees s (behind 0 0 1 x) (work w (read g w k) a p (made s))
   made_full a p x F k s h l c =
-      agrees_behind s (made s) 0 0 1 (record { height = omega arith; reach = omega arith; nodes = omega arith }) x (work w (read g w k) a p (made s))
+      agrees_behind (made_grown s c) x _
       (F k (made s) (omega (arith, behind_height 0 0 1 x)) l (omega arith))
 
   pub complete : {t : Tree} {p : ℕ} {x : Came} → Comes g w t p x → Moving g t → Full t p x
@@ -210,30 +162,29 @@ module _ (g : List Tree) (w : List ℕ) (M : (r : ℕ) → Moving g (body g r)) 
   complete (Comes.range_in {low = low} {high = high} {p = p} {c = b} e i j) N k s h l c = range_in_full low high p b e i j k s h l c
   complete (Comes.range_out {low = low} {high = high} {p = p} e) N k s h l c = range_out_full low high p e k s h l c
   complete (Comes.rule {r = r} {p = p} {x = x} D) N k s h l c = rule_full r p x (complete D (M r)) k s h l c
-  complete (Comes.sequence_fails {a = a} {b = b} {p = p} {h = i} {l = j} D) N k s h l c =
-      behind_fail (work w (read g w k) b) miss s i j (failed i j) (work w (read g w k) a p s) (complete D N.0 k s h l c) (λ u E. E)
+  complete (Comes.sequence_fails {b = b} {h = i} {l = j} D) N k s h l c =
+      behind_fail (work w (read g w k) b) miss s _ _ (failed i j) _ (complete D N.0 k s h l c) (λ u E. E)
   complete (Comes.sequence {a = a} {b = b} {p = p} {q = q} {h = i} {l = j} {n = n} {x = x} D E) N k s h l c =
       sequence_full a b p q i j n x (complete D N.0) (complete E N.1) k s h l c
-  complete (Comes.choice_first {a = a} {b = b} {p = p} {q = q} {h = i} {l = j} {n = n} D) N k s h l c =
-      behind_match hit (back_to p s.nodes (work w (read g w k) b)) p q s i j n (matched q i j n) (work w (read g w k) a p s) (complete D N.0 k s h l c)
-      (λ u e G. (refl, G))
+  complete (Comes.choice_first {b = b} {p = p} {q = q} {h = i} {l = j} {n = n} D) N k s h l c =
+      behind_match hit (back_to p s.nodes (work w (read g w k) b)) _ s _ _ _ (matched q i j n) _ (complete D N.0 k s h l c) (λ u e G. (refl, G))
   complete (Comes.choice_second {a = a} {b = b} {p = p} {h = i} {l = j} {x = x} D E) N k s h l c =
       choice_second_full a b p i j x (complete D N.0) (complete E N.1) k s h l c
   complete (Comes.repeat_ends {a = a} {p = p} {h = i} {l = j} D) N k s h l c =
-      behind_fail (λ r. onward (ltb p r) (turns (length w - p) (work w (read g w k) a)) r) (back_to p s.nodes hit) s i j (matched p i j 0)
-      (work w (read g w k) a p s) (complete D N.1 k s h l c) (λ u E. (refl, agrees_back s u i j c E))
+      behind_fail (λ r. onward (ltb p r) (turns (length w - p) (work w (read g w k) a)) r) (back_to p s.nodes hit) s _ _ (matched p i j 0) _
+      (complete D N.1 k s h l c) (λ u E. (refl, back_grown s u i j c E.0 E.1))
   complete (Comes.repeat {a = a} {p = p} {q = q} {h = i} {l = j} {n = n} {x = x} D E) N k s h l c =
       repeat_full a p q i j n x N.0 (complete D N.1) (complete E N) k s h l c
-  complete (Comes.ahead {a = a} {p = p} {q = q} {h = i} {l = j} {n = n} D) N k s h l c =
-      rest_match (λ r. back_to p s.nodes hit) miss p q s i j n (work w (read g w k) a p s) c (complete D N k s h l c) (λ u. refl)
-  complete (Comes.ahead_fails {a = a} {p = p} {h = i} {l = j} D) N k s h l c =
-      behind_fail (λ r. back_to p s.nodes hit) miss s i j (failed i j) (work w (read g w k) a p s) (complete D N k s h l c) (λ u E. E)
-  complete (Comes.absent {a = a} {p = p} {h = i} {l = j} D) N k s h l c =
-      behind_fail (λ r. miss) (back_to p s.nodes hit) s i j (matched p i j 0) (work w (read g w k) a p s) (complete D N k s h l c)
-      (λ u E. (refl, agrees_back s u i j c E))
-  complete (Comes.absent_fails {a = a} {p = p} {q = q} {h = i} {l = j} {n = n} D) N k s h l c =
-      behind_match (λ r. miss) (back_to p s.nodes hit) p q s i j n (failed i j) (work w (read g w k) a p s) (complete D N k s h l c)
-      (λ u e G. (G.height, G.reach))
+  complete (Comes.ahead {p = p} {h = i} {l = j} D) N k s h l c =
+      behind_match (λ r. back_to p s.nodes hit) miss _ s _ _ _ (matched p i j 0) _ (complete D N k s h l c)
+      (λ u e G. (refl, back_grown s u i j c G.height G.reach))
+  complete (Comes.ahead_fails {p = p} {h = i} {l = j} D) N k s h l c =
+      behind_fail (λ r. back_to p s.nodes hit) miss s _ _ (failed i j) _ (complete D N k s h l c) (λ u E. E)
+  complete (Comes.absent {p = p} {h = i} {l = j} D) N k s h l c =
+      behind_fail (λ r. miss) (back_to p s.nodes hit) s _ _ (matched p i j 0) _ (complete D N k s h l c)
+      (λ u E. (refl, back_grown s u i j c E.0 E.1))
+  complete (Comes.absent_fails {p = p} {h = i} {l = j} D) N k s h l c =
+      behind_match (λ r. miss) (back_to p s.nodes hit) _ s _ _ _ (failed i j) _ (complete D N k s h l c) (λ u e G. (G.height, G.reach))
   complete (Comes.node {a = a} {p = p} {x = x} D) N k s h l c = made_full a p x (complete D N) k s h l c
   complete (Comes.link D) N k s h l c = complete D N k s h l c
   complete (Comes.fold {a = a} {p = p} {x = x} D) N k s h l c = made_full a p x (complete D N) k s h l c

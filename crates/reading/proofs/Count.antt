@@ -1,8 +1,8 @@
 -- Counting different pairs: those of a grammar and an input are no more than rules times positions.
-use Rattle.std.proofs.Common.{◌≡◌, ℕ, zero, suc, ◌*◌, ◌<◌, ◌≤◌, Bool, true, false, cond, ◌||◌, eqb, ◌⊎◌, List, [], ◌∷◌, ◌++◌, length, sym, refl, ap, ◌∙◌, subst, inl, inr, suc-mul, zero-mul, arith, length-append}
-use Rattle.std.proofs.lemmas.Bool.{eqb-true, eqb-false, eq-eqb, both_ways, and_parts}
+use Rattle.std.proofs.Common.{◌≡◌, ℕ, zero, suc, ◌*◌, ◌<◌, ◌≤◌, true, false, eqb, ◌⊎◌, List, [], ◌∷◌, ◌++◌, length, sym, refl, ap, ◌∙◌, subst, inl, inr, suc-mul, zero-mul, arith, length-append}
+use Rattle.std.proofs.lemmas.Bool.{eqb-true, eq-eqb, both_ways, and_parts, or_cases, or_parts, cond_both, cases_eq}
 use Rattle.reading.specs.Lists.{In, Apart, Within}
-use Rattle.reading.specs.Reached.{Pair, same, among, once, different}
+use Rattle.reading.specs.Reached.{Pair, same, among, add, once, different}
 use Rattle.reading.specs.ReadingLaws.{InGrid}
 use Rattle.reading.proofs.Visits.{in_left, in_right}
 
@@ -12,56 +12,42 @@ same_true x y e =
     λ i. (eqb-true x.0 y.0 v.0 i, eqb-true x.1 y.1 v.1 i)
 
 true_same : (x y : Pair) → x ≡ y → same x y ≡ true
-true_same x y e =
-    rw (eq-eqb x.0 y.0 (ap (λ (z : Pair). z.0) e)) (eq-eqb x.1 y.1 (ap (λ (z : Pair). z.1) e))
+true_same x y e = rw (eq-eqb x.0 y.0 (ap (λ (z : Pair). z.0) e)) (eq-eqb x.1 y.1 (ap (λ (z : Pair). z.1) e))
 
 -- the test tells what is in a list
-either_in : (x y : Pair) (ys : List Pair) (v : Bool) → same x y ≡ v → (v || among x ys) ≡ true → (among x ys ≡ true → In x ys) → In x (y ∷ ys)
-either_in x y ys true e h k = inl (same_true x y e)
-either_in x y ys false e h k = inr (k h)
-
 among_in : (x : Pair) (ys : List Pair) → among x ys ≡ true → In x ys
-among_in x [] e = absurd (both_ways false refl e)
-among_in x (y ∷ ys) e = either_in x y ys (same x y) refl e (among_in x ys)
-
-neither_in : (x y : Pair) (ys : List Pair) (v : Bool) → same x y ≡ v → (v || among x ys) ≡ false → (among x ys ≡ false → In x ys → ⊥)
-    → In x (y ∷ ys) → ⊥
-neither_in x y ys true e h k i = both_ways true h refl
-neither_in x y ys false e h k (inl i) = both_ways (same x y) e (true_same x y i)
-neither_in x y ys false e h k (inr i) = k h i
+among_in x [] e = cc
+among_in x (y ∷ ys) e = elim (or_cases (same x y) (among x ys) e) [ inl f ↦ inl (same_true x y f) | inr f ↦ inr (among_in x ys f) ]
 
 among_out : (x : Pair) (ys : List Pair) → among x ys ≡ false → In x ys → ⊥
 among_out x [] e i = i
-among_out x (y ∷ ys) e i = neither_in x y ys (same x y) refl e (among_out x ys) i
+among_out x (y ∷ ys) e (inl i) = both_ways (same x y) (or_parts (same x y) (among x ys) e).0 (true_same x y i)
+among_out x (y ∷ ys) e (inr i) = among_out x ys (or_parts (same x y) (among x ys) e).1 i
 
 -- Lists in which no pair stands twice.
 
-add_apart : (x : Pair) (xs : List Pair) (v : Bool) → among x xs ≡ v → Apart xs → Apart (cond v xs (x ∷ xs))
-add_apart x xs true e h = h
-add_apart x xs false e h = (among_out x xs e, h)
-
 pub once_apart : (xs : List Pair) → Apart (once xs)
 once_apart [] = tt
-once_apart (x ∷ xs) = add_apart x (once xs) (among x (once xs)) refl (once_apart xs)
+once_apart (x ∷ xs) =
+    let rest : Apart (once xs) = once_apart xs in
+    cond_both (among x (once xs)) (once xs) (x ∷ once xs) Apart (λ e. rest) (λ e. (among_out x (once xs) e, rest))
 
-add_from : (x : Pair) (xs : List Pair) (v : Bool) → Within (cond v xs (x ∷ xs)) (x ∷ xs)
-add_from x xs true y i = inr i
-add_from x xs false y i = i
+add_from : (x : Pair) (xs : List Pair) → Within (add x xs) (x ∷ xs)
+add_from x xs = cond_both (among x xs) xs (x ∷ xs) (λ (zs : List Pair). Within zs (x ∷ xs)) (λ e y i. inr i) (λ e y i. i)
 
-add_in : (x : Pair) (xs : List Pair) (v : Bool) → among x xs ≡ v → Within (x ∷ xs) (cond v xs (x ∷ xs))
-add_in x xs true e y (inl i) = rw i (among_in x xs e)
-add_in x xs true e y (inr i) = i
-add_in x xs false e y i = i
+add_in : (x : Pair) (xs : List Pair) → Within (x ∷ xs) (add x xs)
+add_in x xs =
+    cond_both (among x xs) xs (x ∷ xs) (Within (x ∷ xs)) (λ e y i. elim i [ inl f ↦ rw f (among_in x xs e) | inr j ↦ j ]) (λ e y i. i)
 
 -- the same pairs stand in it
 pub once_from : (xs : List Pair) → Within (once xs) xs
 once_from [] y i = i
-once_from (x ∷ xs) y i = elim (add_from x (once xs) (among x (once xs)) y i) [ inl j ↦ inl j | inr j ↦ inr (once_from xs y j) ]
+once_from (x ∷ xs) y i = elim (add_from x (once xs) y i) [ inl j ↦ inl j | inr j ↦ inr (once_from xs y j) ]
 
 pub once_in : (xs : List Pair) → Within xs (once xs)
 once_in [] y i = i
-once_in (x ∷ xs) y (inl i) = add_in x (once xs) (among x (once xs)) refl y (inl i)
-once_in (x ∷ xs) y (inr i) = add_in x (once xs) (among x (once xs)) refl y (inr (once_in xs y i))
+once_in (x ∷ xs) y (inl i) = add_in x (once xs) y (inl i)
+once_in (x ∷ xs) y (inr i) = add_in x (once xs) y (inr (once_in xs y i))
 
 -- a list without one of its pairs
 record Cut (x : Pair) (ys : List Pair) : Type 0 where
@@ -119,23 +105,19 @@ grid_length (suc m) n = omega (arith, length-append (row m n) (grid m n), row_le
 in_row : (r n : ℕ) (x : Pair) → x.0 ≡ r → x.1 < n → In x (row r n)
 unfolding row
 in_row r zero x e l = absurd (omega arith)
-in_row r (suc n) x e l = go (λ m. in_row r n x e m) (eqb x.1 n) refl
-  where
-    go : (x.1 < n → In x (row r n)) → (v : Bool) → eqb x.1 n ≡ v → In x ((r, n) ∷ row r n)
-    go k true f = inl (λ i. (e i, eqb-true x.1 n f i))
-    go k false f = let apart : x.1 ≡ n → ⊥ = eqb-false x.1 n f in inr (k (omega arith))
+in_row r (suc n) x e l = elim (cases_eq x.1 n) [ inl f ↦ inl (λ i. (e i, f i)) | inr f ↦ inr (in_row r n x e (omega arith)) ]
 
 in_all : (m n : ℕ) (x : Pair) → x.0 < m → x.1 < n → In x (grid m n)
 unfolding grid
 in_all zero n x l k = absurd (omega arith)
-in_all (suc m) n x l k = go (λ j. in_all m n x j k) (eqb x.0 m) refl
-  where
-    go : (x.0 < m → In x (grid m n)) → (v : Bool) → eqb x.0 m ≡ v → In x (row m n ++ grid m n)
-    go j true f = in_left x (row m n) (grid m n) (in_row m n x (eqb-true x.0 m f) k)
-    go j false f = let apart : x.0 ≡ m → ⊥ = eqb-false x.0 m f in in_right x (row m n) (grid m n) (j (omega arith))
+in_all (suc m) n x l k =
+    elim (cases_eq x.0 m) [
+      | inl f ↦ in_left x (row m n) (grid m n) (in_row m n x f k)
+      | inr f ↦ in_right x (row m n) (grid m n) (in_all m n x (omega arith) k)
+    ]
 
 pub different_grid : (m n : ℕ) (xs : List Pair) → ((x : Pair) → In x xs → InGrid m n x) → different xs ≤ m * suc n
 different_grid m n xs h =
     let l : different xs ≤ length (grid m (suc n)) =
-    different_most xs (grid m (suc n)) (λ x i. in_all m (suc n) x (h x i).0 (let b : x.1 ≤ n = (h x i).1 in omega arith)) in
+    different_most xs (grid m (suc n)) (λ x i. in_all m (suc n) x (h x i).0 (omega (arith, (h x i).1))) in
     omega (arith, grid_length m (suc n))

@@ -1,15 +1,15 @@
 -- A property of outcomes that each step of plain reading keeps is one of every expression's outcome.
 use Rattle.std.proofs.Common.{◌≡◌, ℕ, zero, suc, ◌-◌, ◌<◌, Bool, true, false, ◌&&◌, eqb, ltb, leb, List, [], ◌∷◌, length, refl, arith}
 use Rattle.reading.specs.Tree.{Tree}
-use Rattle.reading.specs.Tree.Tree.{empty, text, range, rule, sequence, choice, repeat, ahead, absent, node, link, fold, tag}
+use Rattle.reading.specs.Tree.Tree.{text, range, rule, sequence, choice, repeat, ahead, absent, node, link, fold}
 use Rattle.reading.specs.Reading.{Progress, Outcome, Answer, Work, byte_at, looked, left, made, fits, look, spell, after, back_to, onward, turns, take, work}
 use Rattle.reading.specs.Reading.Outcome.{deep, hit, miss}
 
 -- only a byte of the input fits
 pub fits_inside : (w : List ℕ) (p : ℕ) (test : ℕ → Bool) → fits test (byte_at w p) ≡ true → p < length w
-fits_inside [] p test e = absurd (let z : ◌≡◌ {A = ℕ} 0 1 = cc in omega arith)
+fits_inside [] p test e = cc
 fits_inside (x ∷ w) zero test e = omega arith
-fits_inside (x ∷ w) (suc p) test e = let h : p < length w = fits_inside w p test e in omega arith
+fits_inside (x ∷ w) (suc p) test e = omega (arith, fits_inside w p test e)
 
 -- a property of a position, the progress there, and an outcome
 pub record Kept (w : List ℕ) (P : ℕ → Progress → Outcome → Type 0) : Type 0 where
@@ -52,30 +52,29 @@ module _ (w : List ℕ) (P : ℕ → Progress → Outcome → Type 0) (K : Kept 
       after_has (λ q. onward (ltb p q) (turns m f) q) (back_to p s.nodes hit) p s
       (λ q t h. K.goes_on p q s t (onward (ltb p q) (turns m f) q t) h (onward_has (ltb p q) (turns m f) (turns_has m f F) q t))
       (λ t h. K.goes_back p s t (hit p (left s.nodes t)) h (K.stays p (left s.nodes t)))
-      (f p s) (F p s)
+      _ (F p s)
 
   module _ (ask : ℕ → ℕ → Answer) (A : (r p : ℕ) (s : Progress) → P p s (take s (ask r p))) where
     pub work_has : (t : Tree) → Has (work w ask t)
-    work_has empty p s = K.stays p s
     work_has (text cs) p s = spell_has cs p s
     work_has (range low high) p s =
         look_has hit K.stays p s (fits (λ x. leb low x && leb x high) (byte_at w p)) (fits_inside w p (λ x. leb low x && leb x high))
     work_has (rule r) p s = A r p s
     work_has (sequence a b) p s =
         after_has (work w ask b) miss p s (λ q t h. K.goes_on p q s t (work w ask b q t) h (work_has b q t)) (λ t h. h)
-        (work w ask a p s) (work_has a p s)
+        _ (work_has a p s)
     work_has (choice a b) p s =
         after_has hit (back_to p s.nodes (work w ask b)) p s (λ q t h. h)
         (λ t h. K.goes_back p s t (work w ask b p (left s.nodes t)) h (work_has b p (left s.nodes t)))
-        (work w ask a p s) (work_has a p s)
+        _ (work_has a p s)
     work_has (repeat a) p s = turns_has (suc (length w - p)) (work w ask a) (work_has a) p s
     work_has (ahead a) p s =
-        after_has (λ q. back_to p s.nodes hit) miss p s (λ q t h. K.looks_ahead p q s t h) (λ t h. h) (work w ask a p s) (work_has a p s)
+        after_has (λ q. back_to p s.nodes hit) miss p s (λ q t h. K.looks_ahead p q s t h) (λ t h. h) _ (work_has a p s)
     work_has (absent a) p s =
         after_has (λ q. miss) (back_to p s.nodes hit) p s (λ q t h. K.is_there p q s t h)
         (λ t h. K.goes_back p s t (hit p (left s.nodes t)) h (K.stays p (left s.nodes t)))
-        (work w ask a p s) (work_has a p s)
-    work_has (node a) p s = K.makes p s (work w ask a p (made s)) (work_has a p (made s))
+        _ (work_has a p s)
+    work_has (node a) p s = K.makes p s _ (work_has a p (made s))
     work_has (link a) p s = work_has a p s
-    work_has (fold a) p s = K.makes p s (work w ask a p (made s)) (work_has a p (made s))
-    work_has (tag n) p s = K.stays p s
+    work_has (fold a) p s = K.makes p s _ (work_has a p (made s))
+    work_has _ p s = K.stays p s

@@ -1,9 +1,9 @@
 -- The pairs inside a reading that completes complete too, and are less high; all pairs are of the grammar and the input.
-use Rattle.std.proofs.Common.{◌≡◌, ℕ, zero, suc, ◌<◌, ◌≤◌, List, [], ◌∷◌, length, sym, refl, ap, ◌∙◌, subst, inl, inr, arith}
+use Rattle.std.proofs.Common.{◌≡◌, ℕ, zero, suc, ◌<◌, ◌≤◌, List, length, drop, sym, refl, ap, ◌∙◌, inl, inr, arith}
 use Rattle.reading.specs.declared.answer.Reading.{Reading}
 use Rattle.reading.specs.Tree.{Tree, body, Asks, Closed}
 use Rattle.reading.specs.Reading.{Outcome, Answer, start, work, close, read}
-use Rattle.reading.specs.Reading.Outcome.{deep, hit, miss}
+use Rattle.reading.specs.Reading.Outcome.{deep}
 use Rattle.reading.specs.Reading.Answer.{too_deep, done}
 use Rattle.reading.specs.Lists.{In}
 use Rattle.reading.specs.Reached.{Pair, reached, inside}
@@ -26,8 +26,7 @@ whole x d e = rw e tt
 
 close_whole : (p : ℕ) (o : Outcome) → Whole (close p o) → Completes o
 close_whole p deep h = h
-close_whole p (hit q t) h = tt
-close_whole p (miss t) h = tt
+close_whole p _ h = tt
 
 module _ (g : List Tree) (w : List ℕ) where
   -- what is whole under a budget is whole under a greater one
@@ -35,7 +34,7 @@ module _ (g : List Tree) (w : List ℕ) where
   whole_over k j r p l h =
       let T : Told (read g w k r p) = told (read g w k r p) h in
       let B : Budgeted g w k r p T.reading = budget g w k r p T.reading T.is in
-      whole (read g w j r p) T.reading (B.enough j (let m : T.reading.height ≤ k = B.most in omega arith))
+      whole (read g w j r p) T.reading (B.enough j (omega arith))
 
   -- the rule by which a pair inside was reached
   came : (k r p : ℕ) → p ≤ length w → (x : Pair) → In x (inside g w (suc k) r p)
@@ -44,7 +43,7 @@ module _ (g : List Tree) (w : List ℕ) where
 
   reached_whole : (k r p : ℕ) → p ≤ length w → Whole (read g w k r p) → (x : Pair) → In x (reached g w k r p) → Whole (read g w k x.0 x.1)
   reached_whole zero r p l h x i = absurd h
-  reached_whole (suc k) r p l h x (inl e) = subst (λ (y : Pair). Whole (read g w (suc k) y.0 y.1)) (sym e) h
+  reached_whole (suc k) r p l h x (inl e) = rw e h
   reached_whole (suc k) r p l h x (inr i) =
       let F = came k r p l x i in
       whole_over k (suc k) x.0 x.1 (omega arith)
@@ -56,17 +55,12 @@ module _ (g : List Tree) (w : List ℕ) where
       reached_whole k F.by F.position F.inside (F.whole (close_whole p _ h)) x F.reaches
 
   -- the pairs of a rule but itself
-  others : List Pair → List Pair
-  others [] = []
-  others (x ∷ xs) = xs
-
-  inside_others : (k r p : ℕ) → inside g w k r p ≡ others (reached g w k r p)
-  unfolding others
-  inside_others zero r p = refl
-  inside_others (suc k) r p = refl
+  inside_drop : (k r p : ℕ) → inside g w k r p ≡ drop 1 (reached g w k r p)
+  inside_drop zero r p = refl
+  inside_drop (suc k) r p = refl
 
   inside_same : (j k r p : ℕ) → reached g w j r p ≡ reached g w k r p → inside g w j r p ≡ inside g w k r p
-  inside_same j k r p e = inside_others j r p ∙ ap others e ∙ sym (inside_others k r p)
+  inside_same j k r p e = inside_drop j r p ∙ ap (drop 1) e ∙ sym (inside_drop k r p)
 
   pub inner : (k r p : ℕ) (d : Reading) → p ≤ length w → read g w k r p ≡ done d → (x : Pair) → In x (inside g w k r p) → Inner g w k d x
   inner k r p d l e x i = at d.height refl
@@ -82,21 +76,17 @@ module _ (g : List Tree) (w : List ℕ) where
           let T : Told (read g w h x.0 x.1) =
           told (read g w h x.0 x.1) (inside_whole h r p l (whole (read g w (suc h) r p) d e') x i') in
           let C : Budgeted g w h x.0 x.1 T.reading = budget g w h x.0 x.1 T.reading T.is in
-          let low : T.reading.height ≤ h = C.most in
-          let most : d.height ≤ k = B.most in
-          record { reading = T.reading; is = C.enough k (omega arith); lower = omega arith }
+          record { reading = T.reading; is = C.enough k (omega (arith, B.most)); lower = omega arith }
 
   pub not_inside : (k r p : ℕ) (d : Reading) → p ≤ length w → read g w k r p ≡ done d → In (r, p) (inside g w k r p) → ⊥
   not_inside k r p d l e i =
       let I : Inner g w k d (r, p) = inner k r p d l e (r, p) i in
-      let same : done I.reading ≡ done d = sym I.is ∙ e in
       let h : I.reading.height ≡ d.height = cc in
-      let lt : I.reading.height < d.height = I.lower in
       omega arith
 
   pub in_grid : Closed g → (k r p : ℕ) → r < length g → p ≤ length w → (x : Pair) → In x (reached g w k r p) → InGrid (length g) (length w) x
   in_grid C zero r p a l x i = absurd i
-  in_grid C (suc k) r p a l x (inl e) = subst (λ (y : Pair). InGrid (length g) (length w) y) (sym e) (a, l)
+  in_grid C (suc k) r p a l x (inl e) = rw e (a, l)
   in_grid C (suc k) r p a l x (inr i) =
       let F = came k r p l x i in
       in_grid C k F.by F.position (C r F.by F.asked) F.inside x F.reaches

@@ -11,6 +11,7 @@ pub mod Sound
 pub mod Complete
 pub mod OneReading
 pub mod Alike
+pub mod Building
 pub mod Built
 pub mod SoundTables
 pub mod Frames

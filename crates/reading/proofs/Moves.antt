@@ -1,5 +1,6 @@
 -- What matches without taking a byte may take nothing. So in a grammar the part of a repeat takes a byte wherever it matches.
-use Rattle.std.proofs.Common.{◌≡◌, ℕ, zero, suc, ◌+◌, ◌<◌, ◌≤◌, Bool, true, false, ◌&&◌, eqb, ltb, leb, List, [], ◌∷◌, length, take, drop, sym, refl, subst, arith, length-drop, length-take, ltb-false, ltb-true}
+use Rattle.std.proofs.Common.{◌≡◌, ℕ, zero, suc, ◌<◌, ◌≤◌, Bool, true, false, ◌&&◌, eqb, leb, List, [], ◌∷◌, length, take, drop, refl, inl, inr, arith, length-drop, length-take}
+use Rattle.std.proofs.lemmas.Bool.{cases_lt}
 use lib.ListN.{get_or-eq_default}
 use Rattle.form.specs.declared.expr.Expr.{Expr}
 use Rattle.form.specs.declared.expr.Expr.TheVariants.{Empty, Text, Range, Rule, Sequence, Choice, Repeat, Ahead, Absent, Node, Link, Fold, Tag}
@@ -17,9 +18,8 @@ use Rattle.reading.proofs.Records.{each_tree, rule_tree, fields_at}
 
 -- the end of a match lies behind p
 abbrev Beyond : ℕ → Outcome → Type 0
-Beyond p deep = Unit {0}
 Beyond p (hit q t) = p < q
-Beyond p (miss t) = Unit {0}
+Beyond p _ = Unit {0}
 
 look_beyond : (m : ℕ) (v : Bool) (f : Work) (p : ℕ) (s : Progress) → Beyond m (f (suc p) (looked p s)) → Beyond m (look v f p s)
 look_beyond m true f p s h = h
@@ -35,40 +35,32 @@ text_beyond w [] p s l = absurd (omega arith)
 text_beyond w (x ∷ cs) p s l =
     look_beyond p (fits (λ y. eqb y x) (byte_at w p)) (spell w cs) p s (spell_beyond w cs p (suc p) (looked p s) (omega arith))
 
-cut_length : (txt : List ℕ) (start len : ℕ) → start + len ≤ length txt → length (take len (drop start txt)) ≡ len
-cut_length txt start len l = simp (length-take, length-drop) (omega arith)
-
 module _ (c : Contents) where
   abbrev MayTakeNothing : ℕ → Type 0
   MayTakeNothing e = Nullable c.exprs c.rules e
 
   -- record e, worked at p, comes to an outcome: to a match that takes nothing only if it may take nothing
   abbrev Still : ℕ → ℕ → Outcome → Type 0
-  Still e p deep = Unit {0}
   Still e p (hit q t) = q ≤ p → MayTakeNothing e
-  Still e p (miss t) = Unit {0}
+  Still e p _ = Unit {0}
 
   always : (e p : ℕ) (o : Outcome) → MayTakeNothing e → Still e p o
-  always e p deep h = tt
   always e p (hit q t) h = λ l. h
-  always e p (miss t) h = tt
+  always e p _ h = tt
 
   still_part : (e a p : ℕ) (o : Outcome) → (MayTakeNothing a → MayTakeNothing e) → Still a p o → Still e p o
-  still_part e a p deep f h = tt
   still_part e a p (hit q t) f h = λ l. f (h l)
-  still_part e a p (miss t) f h = tt
+  still_part e a p _ f h = tt
 
   beyond_still : (e p : ℕ) (o : Outcome) → Beyond p o → Still e p o
-  beyond_still e p deep h = tt
   beyond_still e p (hit q t) h = λ l. absurd (omega arith)
-  beyond_still e p (miss t) h = tt
+  beyond_still e p _ h = tt
 
   -- the second part of a sequence, worked behind the first: both took nothing
   second_still : (e a b n p q : ℕ) (t : Progress) (o : Outcome) → p ≤ q → (q ≤ p → MayTakeNothing a)
       → (MayTakeNothing a → MayTakeNothing b → MayTakeNothing e) → Stayed n q t o → Still b q o → Still e p o
-  second_still e a b n p q t deep l h f m k = tt
-  second_still e a b n p q t (hit r u) l h f m k = λ j. f (h (let i : q ≤ r = m.forward in omega arith)) (k (omega arith))
-  second_still e a b n p q t (miss u) l h f m k = tt
+  second_still e a b n p q t (hit r u) l h f m k = λ j. f (h (omega arith)) (k (omega arith))
+  second_still e a b n p q t _ l h f m k = tt
 
   abbrev RuleStill : ℕ → ℕ → Answer → Type 0
   RuleStill r p too_deep = Unit {0}
@@ -94,10 +86,9 @@ module _ (c : Contents) where
     sequence_still e a b x y f X Y p s l = by (work w ask x p s) (work_stays w ask A x p s l) (X p s l)
       where
         by : (o : Outcome) → Stayed (length w) p s o → Still a p o → Still e p (after (work w ask y) miss o)
-        by deep m h = tt
         by (hit q t) m h =
             second_still e a b (length w) p q t (work w ask y q t) m.forward h f (work_stays w ask A y q t m.ends) (Y q t m.ends)
-        by (miss t) m h = tt
+        by _ m h = tt
 
     choice_still : (e a b : ℕ) (x y : Tree) → (MayTakeNothing a → MayTakeNothing e) → (MayTakeNothing b → MayTakeNothing e) → StillTree a x → StillTree b y
         → StillTree e (Tree.choice x y)
@@ -105,8 +96,8 @@ module _ (c : Contents) where
       where
         by : (o : Outcome) → Still a p o → Still e p (after hit (back_to p s.nodes (work w ask y)) o)
         by deep h = tt
-        by (hit q t) h = still_part e a p (hit q t) f h
-        by (miss t) h = still_part e b p (work w ask y p (left s.nodes t)) g (Y p (left s.nodes t) l)
+        by (hit q t) h = λ i. f (h i)
+        by (miss t) h = still_part e b p _ g (Y p (left s.nodes t) l)
 
     range_still : (e low high : ℕ) → StillTree e (Tree.range low high)
     range_still e low high p s l =
@@ -118,18 +109,18 @@ module _ (c : Contents) where
     plant_still e ts S Empty i f p s l = always e p (hit p s) (Nullable.empty i)
     plant_still e ts S (Text start len) i f p s l =
         beyond_still e p (spell w (take len (drop start c.text)) p s)
-        (text_beyond w (take len (drop start c.text)) p s (rw (cut_length c.text start len f.2) f.0))
+        (text_beyond w (take len (drop start c.text)) p s (simp (length-take, length-drop) (omega arith)))
     plant_still e ts S (Range low high) i f p s l = range_still e low high p s l
-    plant_still e ts S (Rule r) i f p s l = take_still e r p s (ask r p) (λ h. Nullable.rule i h) (R r p l)
+    plant_still e ts S (Rule r) i f p s l = take_still e r p s _ (λ h. Nullable.rule i h) (R r p l)
     plant_still e ts S (Sequence a b) i f p s l = sequence_still e a b (pick ts a) (pick ts b) (λ h k. Nullable.both i h k) (S a) (S b) p s l
     plant_still e ts S (Choice a b) i f p s l =
         choice_still e a b (pick ts a) (pick ts b) (λ h. Nullable.first i h) (λ h. Nullable.second i h) (S a) (S b) p s l
-    plant_still e ts S (Repeat a) i f p s l = always e p (work w ask (Tree.repeat (pick ts a)) p s) (Nullable.repeat i)
-    plant_still e ts S (Ahead a) i f p s l = always e p (work w ask (Tree.ahead (pick ts a)) p s) (Nullable.ahead i)
-    plant_still e ts S (Absent a) i f p s l = always e p (work w ask (Tree.absent (pick ts a)) p s) (Nullable.absent i)
-    plant_still e ts S (Node a) i f p s l = still_part e a p (work w ask (pick ts a) p (made s)) (λ h. Nullable.node i h) (S a p (made s) l)
-    plant_still e ts S (Link a) i f p s l = still_part e a p (work w ask (pick ts a) p s) (λ h. Nullable.link i h) (S a p s l)
-    plant_still e ts S (Fold a) i f p s l = still_part e a p (work w ask (pick ts a) p (made s)) (λ h. Nullable.fold i h) (S a p (made s) l)
+    plant_still e ts S (Repeat a) i f p s l = always e p _ (Nullable.repeat i)
+    plant_still e ts S (Ahead a) i f p s l = always e p _ (Nullable.ahead i)
+    plant_still e ts S (Absent a) i f p s l = always e p _ (Nullable.absent i)
+    plant_still e ts S (Node a) i f p s l = still_part e a p _ (λ h. Nullable.node i h) (S a p (made s) l)
+    plant_still e ts S (Link a) i f p s l = still_part e a p _ (λ h. Nullable.link i h) (S a p s l)
+    plant_still e ts S (Fold a) i f p s l = still_part e a p _ (λ h. Nullable.fold i h) (S a p (made s) l)
     plant_still e ts S (Tag a) i f p s l = always e p (hit p s) (Nullable.tag i)
 
     work_still : (e : ℕ) → StillTree e (pick (trees c) e)
@@ -138,13 +129,13 @@ module _ (c : Contents) where
   close_still : (r p : ℕ) (o : Outcome) → Still (records.body c.exprs c.rules r) p o → RuleStill r p (close p o)
   close_still r p deep h = tt
   close_still r p (hit q t) h = λ i. h
-  close_still r p (miss t) h = λ i. absurd (let z : ◌≡◌ {A = ℕ} 0 1 = cc in omega arith)
+  close_still r p (miss t) h = λ i. cc
 
   read_still : Laid c → (w : List ℕ) (k r p : ℕ) → p ≤ length w → RuleStill r p (read (bodies c) w k r p)
   read_still L w zero r p l = tt
   read_still L w (suc k) r p l =
       close_still r p (work w (read (bodies c) w k) (body (bodies c) r) p (start p))
-      (subst (λ (t : Tree). Still (records.body c.exprs c.rules r) p (work w (read (bodies c) w k) t p (start p))) (sym (rule_tree c r))
+      (rw (rule_tree c r)
       (work_still L w (read (bodies c) w k) (read_stays (bodies c) w k) (read_still L w k) (records.body c.exprs c.rules r) p (start p) l))
 
 -- wherever the tree matches, it takes a byte
@@ -153,10 +144,6 @@ Moves g t = (w : List ℕ) (k p : ℕ) (s : Progress) (q : ℕ) (u : Progress) �
 
 -- each part of a repeat does
 abbrev pub Moving : List Tree → Tree → Type 0
-Moving g Tree.empty = Unit {0}
-Moving g (Tree.text cs) = Unit {0}
-Moving g (Tree.range low high) = Unit {0}
-Moving g (Tree.rule r) = Unit {0}
 Moving g (Tree.sequence a b) = Moving g a × Moving g b
 Moving g (Tree.choice a b) = Moving g a × Moving g b
 Moving g (Tree.repeat a) = Moves g a × Moving g a
@@ -165,18 +152,16 @@ Moving g (Tree.absent a) = Moving g a
 Moving g (Tree.node a) = Moving g a
 Moving g (Tree.link a) = Moving g a
 Moving g (Tree.fold a) = Moving g a
-Moving g (Tree.tag n) = Unit {0}
+Moving g _ = Unit {0}
 
 module _ (c : Contents) (F : Form c) where
   -- only a record of the file is a repeat
   repeat_inside : (e a : ℕ) → at c.exprs e ≡ Repeat a → e < length c.exprs
-  repeat_inside e a i = by (ltb e (length c.exprs)) refl
-    where
-      by : (v : Bool) → ltb e (length c.exprs) ≡ v → e < length c.exprs
-      by true l = ltb-true e (length c.exprs) l
-      by false l =
-          let past : at c.exprs e ≡ Range 0 0 = get_or-eq_default c.exprs (Range 0 0) (ltb-false e (length c.exprs) l) in
-          absurd (let z : ◌≡◌ {A = ℕ} 0 1 = cc in omega arith)
+  repeat_inside e a i =
+      elim (cases_lt e (length c.exprs)) [
+        | inl l ↦ l
+        | inr l ↦ let past : at c.exprs e ≡ Range 0 0 = get_or-eq_default c.exprs (Range 0 0) l in cc
+      ]
 
   abbrev g : List Tree
   g = bodies c
@@ -186,29 +171,19 @@ module _ (c : Contents) (F : Form c) where
 
   -- the part a of the repeat e takes a byte, since it may not take nothing
   part_moves : (e a : ℕ) (t : Tree) → at c.exprs e ≡ Repeat a → StillIn a t → Moves g t
-  part_moves e a t i S w k p s q u l h = by (ltb p q) refl
-    where
-      by : (v : Bool) → ltb p q ≡ v → p < q
-      by true m = ltb-true p q m
-      by false m =
-          let still : q ≤ p → Nullable c.exprs c.rules a = subst (λ (o : Outcome). Still c a p o) h (S w k p s l) in
-          absurd (F.repeats_take e (repeat_inside e a i) (record { part = a; repeats = i; nullable = still (ltb-false p q m) }))
+  part_moves e a t i S w k p s q u l h =
+      let still : q ≤ p → Nullable c.exprs c.rules a = rw h at (S w k p s l) in
+      elim (cases_lt p q) [
+        | inl m ↦ m
+        | inr m ↦ absurd (F.repeats_take e (repeat_inside e a i) (record { part = a; repeats = i; nullable = still m }))
+      ]
 
   plant_moving : (e : ℕ) (ts : List Tree) → ((j : ℕ) → StillIn j (pick ts j)) → ((j : ℕ) → Moving g (pick ts j))
       → (x : Expr) → at c.exprs e ≡ x → Moving g (plant c.text ts x)
-  plant_moving e ts S M Empty i = tt
-  plant_moving e ts S M (Text a b) i = tt
-  plant_moving e ts S M (Range a b) i = tt
-  plant_moving e ts S M (Rule r) i = tt
   plant_moving e ts S M (Sequence a b) i = (M a, M b)
   plant_moving e ts S M (Choice a b) i = (M a, M b)
   plant_moving e ts S M (Repeat a) i = (part_moves e a (pick ts a) i (S a), M a)
-  plant_moving e ts S M (Ahead a) i = M a
-  plant_moving e ts S M (Absent a) i = M a
-  plant_moving e ts S M (Node a) i = M a
-  plant_moving e ts S M (Link a) i = M a
-  plant_moving e ts S M (Fold a) i = M a
-  plant_moving e ts S M (Tag a) i = tt
+  plant_moving e ts S M _ i = search
 
   abbrev Both : ℕ → Tree → Type 0
   Both e t = StillIn e t × Moving g t
@@ -222,8 +197,7 @@ module _ (c : Contents) (F : Form c) where
   )
 
   range_both : (e : ℕ) → Both e (Tree.range 0 0)
-  range_both e =
-      (λ w k p s l. range_still c F.laid w (read g w k) (read_stays g w k) (read_still c F.laid w k) e 0 0 p s l, tt)
+  range_both e = (λ w k p s l. range_still c F.laid w (read g w k) (read_stays g w k) (read_still c F.laid w k) e 0 0 p s l, tt)
 
   pub moving : (r : ℕ) → Moving g (body g r)
   moving r =

@@ -1,16 +1,16 @@
 -- The relation allows one answer, and plain reading gives it.
-use Rattle.std.proofs.Common.{◌≡◌, ℕ, zero, suc, ◌+◌, ◌≤◌, min, max, Bool, true, false, List, [], ◌∷◌, length, sym, refl, ap, ◌∙◌, subst, inl, inr, arith}
+use Rattle.std.proofs.Common.{◌≡◌, ℕ, zero, suc, ◌≤◌, Bool, true, false, List, [], ◌∷◌, length, sym, refl, ap, ◌∙◌, inl, inr, arith}
 use Rattle.reading.specs.declared.answer.Reading.{Reading}
 use Rattle.reading.specs.Tree.{Tree, body, bodies}
-use Rattle.reading.specs.Reading.{Outcome, Answer, cap, depth, start, work, close, read}
-use Rattle.reading.specs.Reading.Outcome.{deep, hit, miss}
+use Rattle.reading.specs.Reading.{Outcome, Answer, depth, start, close, read}
+use Rattle.reading.specs.Reading.Outcome.{hit, miss}
 use Rattle.reading.specs.Reading.Answer.{too_deep, done}
 use Rattle.reading.specs.Semantics.{Came, Comes, Reads, Allowed, closed, reading_of}
 use Rattle.reading.specs.Semantics.Came.{matched, failed}
 use Rattle.reading.specs.ReadingLaws.{AnswersAllowed, ReadAllowed}
 use Rattle.reading.proofs.Budget.{budget}
 use Rattle.reading.proofs.Moves.{Moving, moving}
-use Rattle.reading.proofs.Sound.{AnswerExplains, RuleExplains, read_explains}
+use Rattle.reading.proofs.Sound.{AnswerExplains, read_explains}
 use Rattle.reading.proofs.Complete.{Agrees, height_of, closed_height, complete}
 
 -- a reading by its fields
@@ -18,23 +18,9 @@ read_as : (d : Reading) (v : Bool) → d.matched ≡ v → d ≡ record { matche
 read_as d v e = ap (λ (b : Bool). record { matched = b; end = d.end; height = d.height; reach = d.reach; nodes = d.nodes }) e
 
 close_is : (p : ℕ) (x : Came) (o : Outcome) → Agrees (start p) x o → close p o ≡ done (reading_of p (closed p x))
-close_is p (matched q h l n) deep E = absurd E
-close_is p (matched q h l n) (hit r u) E =
-    let a : u.height ≡ max 0 h = E.1.height in
-    let b : suc u.height ≡ suc h = omega arith in
-    let i : u.reach ≡ max p l = E.1.reach in
-    let m : u.nodes ≡ min cap (0 + n) = E.1.nodes in
-    let m' : u.nodes ≡ min cap n = omega arith in
-    let j : r ≡ q = E.0 in
-    cc
-close_is p (matched q h l n) (miss u) E = absurd E
-close_is p (failed h l) deep E = absurd E
-close_is p (failed h l) (hit r u) E = absurd E
-close_is p (failed h l) (miss u) E =
-    let a : u.height ≡ max 0 h = E.0 in
-    let b : suc u.height ≡ suc h = omega arith in
-    let i : u.reach ≡ max p l = E.1 in
-    cc
+close_is p (matched q h l n) (hit r u) E = grind arith
+close_is p (failed h l) (miss u) E = grind arith
+close_is p _ _ E = absurd E
 
 height_of_lem : (p : ℕ) (x : Came) → (reading_of p x).height ≡ height_of x
 height_of_lem p (matched q h l n) = refl
@@ -45,8 +31,7 @@ module _ (g : List Tree) (w : List ℕ) (M : (r : ℕ) → Moving g (body g r)) 
   derived : (k : ℕ) {r p : ℕ} {y : Came} → Comes g w (Tree.rule r) p y → height_of y ≤ k → p ≤ length w → read g w k r p ≡ done (reading_of p y)
   derived zero (Comes.rule {r = r} {p = p} {x = x} D) h l = absurd (omega (arith, closed_height p x))
   derived (suc k) (Comes.rule {r = r} {p = p} {x = x} D) h l =
-      close_is p x (work w (read g w k) (body g r) p (start p))
-      (complete g w M D (M r) k (start p) (omega (arith, closed_height p x)) l (omega arith))
+      close_is p x _ (complete g w M D (M r) k (start p) (omega (arith, closed_height p x)) l (omega arith))
 
   only : (k r p : ℕ) (d : Reading) → p ≤ length w → Reads g w r p d → d.height ≤ k → read g w k r p ≡ done d
   only k r p d l R h =
@@ -63,9 +48,9 @@ module _ (g : List Tree) (w : List ℕ) (M : (r : ℕ) → Moving g (body g r)) 
 
   module _ (k r p : ℕ) (l : p ≤ length w) where
     told : (x : Answer) → read g w k r p ≡ x → Allowed g w k r p x
-    told too_deep e = λ d R h. absurd (let f : read g w k r p ≡ done d = only k r p d l R h in let z : ◌≡◌ {A = ℕ} 0 1 = cc in omega arith)
+    told too_deep e = λ d R h. let f : read g w k r p ≡ done d = only k r p d l R h in cc
     told (done d) e = (
-      reads r p d d.matched refl (subst (λ (x : Answer). RuleExplains g w r p x) e (read_explains g w M k r p l)),
+      reads r p d d.matched refl (rw e at (read_explains g w M k r p l)),
       (budget g w k r p d e).most,
     )
 

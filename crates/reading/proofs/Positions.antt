@@ -1,5 +1,5 @@
 -- A reading stays inside the input, and its height, reach and nodes stay in their limits.
-use Rattle.std.proofs.Common.{ℕ, zero, suc, ◌≤◌, max, Bool, true, false, List, [], length, arith}
+use Rattle.std.proofs.Common.{◌≡◌, ℕ, zero, suc, ◌≤◌, max, Bool, true, false, List, [], length, arith}
 use Rattle.reading.specs.Tree.{Tree, body}
 use Rattle.reading.specs.Reading.{Progress, Outcome, Answer, Work, cap, start, looked, left, made, onward, turns, taken, take, work, close, read}
 use Rattle.reading.specs.Reading.Outcome.{deep, hit, miss}
@@ -16,8 +16,7 @@ Rises p s (miss t) = s.height ≤ t.height
 
 rises_on : (p q : ℕ) (s t : Progress) (o : Outcome) → s.height ≤ t.height → Rises q t o → Rises p s o
 rises_on p q s t deep l h = tt
-rises_on p q s t (hit r u) l h = omega arith
-rises_on p q s t (miss u) l h = omega arith
+rises_on p q s t _ l h = omega arith
 
 rises_kept : (w : List ℕ) → Kept w Rises
 rises_kept w = record {
@@ -152,5 +151,13 @@ work_stays w ask A t p s l =
 pub read_stays : (g : List Tree) (w : List ℕ) (k r p : ℕ) → p ≤ length w → PlacedIf (length w) p (read g w k r p)
 read_stays g w zero r p l = tt
 read_stays g w (suc k) r p l =
-    close_stays (length w) p (work w (read g w k) (body g r) p (start p)) l
-    (work_stays w (read g w k) (read_stays g w k) (body g r) p (start p) l)
+    close_stays (length w) p _ l (work_stays w (read g w k) (read_stays g w k) (body g r) p (start p) l)
+
+-- an expression of the rules' bodies g, and where its match ends
+pub part_stays : (g : List Tree) (w : List ℕ) (k : ℕ) (t : Tree) (p : ℕ) (s : Progress) → p ≤ length w
+    → Stayed (length w) p s (work w (read g w k) t p s)
+part_stays g w k t p s l = work_stays w (read g w k) (read_stays g w k) t p s l
+
+pub part_ends : (g : List Tree) (w : List ℕ) (k : ℕ) (t : Tree) (p : ℕ) (s : Progress) (q : ℕ) (u : Progress) → p ≤ length w
+    → work w (read g w k) t p s ≡ hit q u → q ≤ length w
+part_ends g w k t p s q u l e = let S : Stayed (length w) p s (hit q u) = rw e at (part_stays g w k t p s l) in S.ends

@@ -1,5 +1,5 @@
 -- What plain reading comes to, the relation derives.
-use Rattle.std.proofs.Common.{◌≡◌, ℕ, zero, suc, ◌+◌, ◌-◌, ◌<◌, ◌≤◌, min, max, Bool, true, false, ◌&&◌, eqb, ltb, leb, List, [], ◌∷◌, length, Some, None, Option, sym, refl, ap, ◌∙◌, subst, arith}
+use Rattle.std.proofs.Common.{◌≡◌, ℕ, zero, suc, ◌+◌, ◌-◌, ◌<◌, ◌≤◌, min, max, Bool, true, false, ◌&&◌, eqb, ltb, leb, List, [], ◌∷◌, length, Some, None, Option, sym, refl, ap, ◌∙◌, arith}
 use Rattle.std.proofs.lemmas.Bool.{eqb-true, eqb-false, leb-true, le-leb, lt-ltb, both_ways, and_parts, and_from}
 use Rattle.reading.specs.declared.answer.Reading.{Reading}
 use Rattle.reading.specs.Tree.{Tree, body}
@@ -8,7 +8,7 @@ use Rattle.reading.specs.Reading.Outcome.{deep, hit, miss}
 use Rattle.reading.specs.Reading.Answer.{too_deep, done}
 use Rattle.reading.specs.Semantics.{Came, Comes, behind}
 use Rattle.reading.specs.Semantics.Came.{matched, failed}
-use Rattle.reading.proofs.Positions.{Stayed, work_stays, read_stays}
+use Rattle.reading.proofs.Positions.{Stayed, part_stays, part_ends}
 use Rattle.reading.proofs.Moves.{Moving}
 
 -- the progress u behind s, where a part had this height, looked so far and made so many nodes
@@ -22,6 +22,18 @@ stay s c = record { height = omega arith; reach = omega arith; nodes = omega ari
 
 pub grow_on : (s u v : Progress) (h l n h' l' n' : ℕ) → Grown s u h l n → Grown u v h' l' n' → Grown s v (max h h') (max l l') (n + n')
 grow_on s u v h l n h' l' n' G H = record { height = omega arith; reach = omega arith; nodes = omega arith }
+
+-- a byte was looked at
+pub look_grown : (p : ℕ) (s : Progress) → s.nodes ≤ cap → Grown s (looked p s) 0 (suc p) 0
+look_grown p s c = record { height = omega arith; reach = refl; nodes = omega arith }
+
+-- a node is counted before its part
+pub made_grown : (s : Progress) → s.nodes ≤ cap → Grown s (made s) 0 0 1
+made_grown s c = record { height = omega arith; reach = omega arith; nodes = omega arith }
+
+-- back where it began
+pub back_grown : (s u : Progress) (h l : ℕ) → s.nodes ≤ cap → u.height ≡ max s.height h → u.reach ≡ max s.reach l → Grown s (left s.nodes u) h l 0
+back_grown s u h l c i j = record { height = i; reach = j; nodes = omega arith }
 
 module _ (g : List Tree) (w : List ℕ) where
   record Hit (t : Tree) (p : ℕ) (s : Progress) (q : ℕ) (u : Progress) : Type 0 where
@@ -45,34 +57,28 @@ module _ (g : List Tree) (w : List ℕ) where
   Explains t p s (miss u) = Miss t p s u
 
   -- a part came before, and the rest explains the whole
-  then_explains : (t b : Tree) (p q : ℕ) (s u : Progress) (h l n : ℕ) → Grown s u h l n
+  then_explains : {s u : Progress} {h l n : ℕ} (t b : Tree) (p q : ℕ) → Grown s u h l n
       → ((x : Came) → Comes g w b q x → Comes g w t p (behind h l n x)) → (o : Outcome) → Explains b q u o → Explains t p s o
-  then_explains t b p q s u h l n G k deep E = tt
-  then_explains t b p q s u h l n G k (hit r v) E = record {
+  then_explains t b p q G k deep E = tt
+  then_explains {s = s} {u = u} {h = h} {l = l} {n = n} t b p q G k (hit r v) E = record {
     height = max h E.height;
     looked = max l E.looked;
     nodes = n + E.nodes;
     comes = k (matched r E.height E.looked E.nodes) E.comes;
     grown = grow_on s u v h l n E.height E.looked E.nodes G E.grown;
   }
-  then_explains t b p q s u h l n G k (miss v) E = record {
+  then_explains {h = h} {l = l} t b p q G k (miss v) E = record {
     height = max h E.height;
     looked = max l E.looked;
     comes = k (failed E.height E.looked) E.comes;
-    is_height = let a = G.height in let b = E.is_height in omega arith;
-    is_reach = let a = G.reach in let b = E.is_reach in omega arith;
+    is_height = omega arith;
+    is_reach = omega arith;
   }
-
-  back_explains : (t b : Tree) (p : ℕ) (s u : Progress) (h l : ℕ) → s.nodes ≤ cap → u.height ≡ max s.height h → u.reach ≡ max s.reach l
-      → ((x : Came) → Comes g w b p x → Comes g w t p (behind h l 0 x)) → (o : Outcome) → Explains b p (left s.nodes u) o → Explains t p s o
-  back_explains t b p s u h l c i j k o E =
-      then_explains t b p p s (left s.nodes u) h l 0 (record { height = i; reach = j; nodes = omega arith }) k o E
 
   -- no match, and the whole is a match where it began
   rests : (t : Tree) (p : ℕ) (s u : Progress) (h l : ℕ) → s.nodes ≤ cap → u.height ≡ max s.height h → u.reach ≡ max s.reach l
       → Comes g w t p (matched p h l 0) → Hit t p s p (left s.nodes u)
-  rests t p s u h l c i j D =
-      record { height = h; looked = l; nodes = 0; comes = D; grown = record { height = i; reach = j; nodes = omega arith } }
+  rests t p s u h l c i j D = record { height = h; looked = l; nodes = 0; comes = D; grown = back_grown s u h l c i j }
 
   -- Leaves.
 
@@ -92,7 +98,7 @@ module _ (g : List Tree) (w : List ℕ) where
   fitting test p e = by (byte_at w p) refl e
     where
       by : (o : Option ℕ) → byte_at w p ≡ o → fits test o ≡ true → Fits test p
-      by None i h = absurd (both_ways false refl h)
+      by None i h = cc
       by (Some x) i h = record { byte = x; there = i; passes = h }
 
   unfit : (test : ℕ → Bool) (p x : ℕ) → fits test (byte_at w p) ≡ false → byte_at w p ≡ Some x → test x ≡ false
@@ -108,8 +114,7 @@ module _ (g : List Tree) (w : List ℕ) where
       by true e E =
           let F : Fits (λ y. eqb y x) p = fitting (λ y. eqb y x) p e in
           let here : byte_at w p ≡ Some x = F.there ∙ ap Some (eqb-true F.byte x F.passes) in
-          then_explains (Tree.text (x ∷ cs)) (Tree.text cs) p (suc p) s (looked p s) 0 (suc p) 0
-          (record { height = omega arith; reach = refl; nodes = omega arith }) (λ y D. Comes.text_same here D) (spell w cs (suc p) (looked p s)) E
+          then_explains (Tree.text (x ∷ cs)) (Tree.text cs) p (suc p) (look_grown p s c) (λ y D. Comes.text_same here D) _ E
       by false e E =
           miss_here (Tree.text (x ∷ cs)) p s
           (Comes.text_other (λ i. eqb-false x x (unfit (λ y. eqb y x) p x e i) refl))
@@ -129,7 +134,7 @@ module _ (g : List Tree) (w : List ℕ) where
             looked = suc p;
             nodes = 0;
             comes = Comes.range_in F.there (leb-true low F.byte v.0) (leb-true F.byte high v.1);
-            grown = record { height = omega arith; reach = refl; nodes = omega arith };
+            grown = look_grown p s c;
           }
       by false e =
           miss_here (Tree.range low high) p s
@@ -157,19 +162,11 @@ module _ (g : List Tree) (w : List ℕ) where
   close_explains : (r p : ℕ) (o : Outcome) → Explains (body g r) p (start p) o → RuleExplains r p (close p o)
   close_explains r p deep E = tt
   close_explains r p (hit q u) E =
-      let a : u.height ≡ max 0 E.height = E.grown.height in
-      let h : suc E.height ≡ suc u.height = omega arith in
-      let l : max p E.looked ≡ u.reach = sym E.grown.reach in
-      let b : u.nodes ≡ min cap (0 + E.nodes) = E.grown.nodes in
-      let n : min cap E.nodes ≡ u.nodes = omega arith in
-      let e : matched q (suc E.height) (max p E.looked) (min cap E.nodes) ≡ matched q (suc u.height) u.reach u.nodes = cc in
-      subst (λ (x : Came). Comes g w (Tree.rule r) p x) e (Comes.rule E.comes)
+      let e : matched q (suc u.height) u.reach u.nodes ≡ matched q (suc E.height) (max p E.looked) (min cap E.nodes) = grind arith in
+      rw e (Comes.rule E.comes)
   close_explains r p (miss u) E =
-      let a : u.height ≡ max 0 E.height = E.is_height in
-      let h : suc E.height ≡ suc u.height = omega arith in
-      let l : max p E.looked ≡ u.reach = sym E.is_reach in
-      let e : failed (suc E.height) (max p E.looked) ≡ failed (suc u.height) u.reach = cc in
-      (subst (λ (x : Came). Comes g w (Tree.rule r) p x) e (Comes.rule E.comes), refl, refl)
+      let e : failed (suc u.height) u.reach ≡ failed (suc E.height) (max p E.looked) = grind arith in
+      (rw e (Comes.rule E.comes), refl, refl)
 
   -- Expressions, where the rules' answers are explained, and a repeat's part takes a byte.
 
@@ -187,11 +184,9 @@ module _ (g : List Tree) (w : List ℕ) where
       by deep e X Y next = tt
       by (hit q u) e X Y next =
           let moved : p < q = M p s q u l e in
-          let more : length w - q < m = omega arith in
-          let few : u.nodes ≤ cap = let n = X.grown.nodes in omega arith in
           rw (lt-ltb p q moved)
-          (then_explains (Tree.repeat a) (Tree.repeat a) p q s u X.height X.looked X.nodes X.grown
-          (λ x D. Comes.repeat X.comes D) (turns m f q u) (next q u more Y.ends few))
+          (then_explains (Tree.repeat a) (Tree.repeat a) p q X.grown
+          (λ x D. Comes.repeat X.comes D) _ (next q u (omega arith) Y.ends (omega arith)))
       by (miss u) e X Y next = rests (Tree.repeat a) p s u X.height X.looked c X.is_height X.is_reach (Comes.repeat_ends X.comes)
 
   sequence_explains : (a b : Tree) (f : Work) (p : ℕ) (s : Progress) (o : Outcome) → Explains a p s o
@@ -199,8 +194,8 @@ module _ (g : List Tree) (w : List ℕ) where
       → Explains (Tree.sequence a b) p s (after f miss o)
   sequence_explains a b f p s deep X B = tt
   sequence_explains a b f p s (hit q u) X B =
-      then_explains (Tree.sequence a b) b p q s u X.height X.looked X.nodes X.grown (λ x D. Comes.sequence X.comes D) (f q u)
-      (B q u refl (let n = X.grown.nodes in omega arith))
+      then_explains (Tree.sequence a b) b p q X.grown (λ x D. Comes.sequence X.comes D) _
+      (B q u refl (omega arith))
   sequence_explains a b f p s (miss u) X B =
       record { height = X.height; looked = X.looked; comes = Comes.sequence_fails X.comes; is_height = X.is_height; is_reach = X.is_reach }
 
@@ -211,8 +206,8 @@ module _ (g : List Tree) (w : List ℕ) where
   choice_explains a b f p s (hit q u) c X B =
       record { height = X.height; looked = X.looked; nodes = X.nodes; comes = Comes.choice_first X.comes; grown = X.grown }
   choice_explains a b f p s (miss u) c X B =
-      back_explains (Tree.choice a b) b p s u X.height X.looked c X.is_height X.is_reach (λ x D. Comes.choice_second X.comes D)
-      (f p (left s.nodes u)) (B u)
+      then_explains (Tree.choice a b) b p p (back_grown s u X.height X.looked c X.is_height X.is_reach) (λ x D. Comes.choice_second X.comes D)
+      _ (B u)
 
   ahead_explains : (a : Tree) (p : ℕ) (s : Progress) (o : Outcome) → s.nodes ≤ cap → Explains a p s o
       → Explains (Tree.ahead a) p s (after (λ q. back_to p s.nodes hit) miss o)
@@ -236,47 +231,34 @@ module _ (g : List Tree) (w : List ℕ) where
   link_explains a p s (miss u) X =
       record { height = X.height; looked = X.looked; comes = Comes.link X.comes; is_height = X.is_height; is_reach = X.is_reach }
 
-  -- a node is counted before its part
-  made_grown : (s : Progress) → s.nodes ≤ cap → Grown s (made s) 0 0 1
-  made_grown s c = record { height = omega arith; reach = omega arith; nodes = omega arith }
-
   module _ (k : ℕ) (R : (r p : ℕ) → p ≤ length w → RuleExplains r p (read g w k r p)) where
     abbrev ask : ℕ → ℕ → Answer
     ask = read g w k
-
-    stays : (t : Tree) (p : ℕ) (s : Progress) → p ≤ length w → Stayed (length w) p s (work w ask t p s)
-    stays t p s l = work_stays w ask (read_stays g w k) t p s l
-
-    -- where a part ended is inside the input
-    ends : (p q : ℕ) (s u : Progress) (o : Outcome) → Stayed (length w) p s o → o ≡ hit q u → q ≤ length w
-    ends p q s u o S e = let M : Stayed (length w) p s (hit q u) = subst (λ (x : Outcome). Stayed (length w) p s x) e S in M.ends
 
     work_explains : (t : Tree) → Moving g t → (p : ℕ) (s : Progress) → p ≤ length w → s.nodes ≤ cap → Explains t p s (work w ask t p s)
     work_explains Tree.empty M p s l c = hit_here Tree.empty p s c Comes.empty
     work_explains (Tree.text cs) M p s l c = spell_explains cs p s c
     work_explains (Tree.range low high) M p s l c = range_explains low high p s c
-    work_explains (Tree.rule r) M p s l c = take_explains r p s (ask r p) (R r p l)
+    work_explains (Tree.rule r) M p s l c = take_explains r p s _ (R r p l)
     work_explains (Tree.sequence a b) M p s l c =
-        sequence_explains a b (work w ask b) p s (work w ask a p s) (work_explains a M.0 p s l c)
-        (λ q u e n. work_explains b M.1 q u (ends p q s u (work w ask a p s) (stays a p s l) e) n)
+        sequence_explains a b (work w ask b) p s _ (work_explains a M.0 p s l c)
+        (λ q u e n. work_explains b M.1 q u (part_ends g w k a p s q u l e) n)
     work_explains (Tree.choice a b) M p s l c =
-        choice_explains a b (work w ask b) p s (work w ask a p s) c (work_explains a M.0 p s l c) (λ u. work_explains b M.1 p (left s.nodes u) l c)
+        choice_explains a b (work w ask b) p s _ c (work_explains a M.0 p s l c) (λ u. work_explains b M.1 p (left s.nodes u) l c)
     work_explains (Tree.repeat a) M p s l c =
-        turns_explain a (work w ask a) (work_explains a M.1) (stays a) (λ q u r v m e. M.0 w k q u r v m e)
+        turns_explain a (work w ask a) (work_explains a M.1) (part_stays g w k a) (λ q u r v m e. M.0 w k q u r v m e)
         (suc (length w - p)) p s (omega arith) l c
-    work_explains (Tree.ahead a) M p s l c = ahead_explains a p s (work w ask a p s) c (work_explains a M p s l c)
-    work_explains (Tree.absent a) M p s l c = absent_explains a p s (work w ask a p s) c (work_explains a M p s l c)
+    work_explains (Tree.ahead a) M p s l c = ahead_explains a p s _ c (work_explains a M p s l c)
+    work_explains (Tree.absent a) M p s l c = absent_explains a p s _ c (work_explains a M p s l c)
     work_explains (Tree.node a) M p s l c =
-        then_explains (Tree.node a) a p p s (made s) 0 0 1 (made_grown s c) (λ x D. Comes.node D) (work w ask a p (made s))
-        (work_explains a M p (made s) l (omega arith))
-    work_explains (Tree.link a) M p s l c = link_explains a p s (work w ask a p s) (work_explains a M p s l c)
+        then_explains (Tree.node a) a p p (made_grown s c) (λ x D. Comes.node D) _ (work_explains a M p (made s) l (omega arith))
+    work_explains (Tree.link a) M p s l c = link_explains a p s _ (work_explains a M p s l c)
     work_explains (Tree.fold a) M p s l c =
-        then_explains (Tree.fold a) a p p s (made s) 0 0 1 (made_grown s c) (λ x D. Comes.fold D) (work w ask a p (made s))
-        (work_explains a M p (made s) l (omega arith))
+        then_explains (Tree.fold a) a p p (made_grown s c) (λ x D. Comes.fold D) _ (work_explains a M p (made s) l (omega arith))
     work_explains (Tree.tag n) M p s l c = hit_here (Tree.tag n) p s c Comes.tag
 
   pub read_explains : ((r : ℕ) → Moving g (body g r)) → (k r p : ℕ) → p ≤ length w → RuleExplains r p (read g w k r p)
   read_explains M zero r p l = tt
   read_explains M (suc k) r p l =
-      close_explains r p (work w (read g w k) (body g r) p (start p))
+      close_explains r p _
       (work_explains k (read_explains M k) (body g r) (M r) p (start p) l (omega arith))

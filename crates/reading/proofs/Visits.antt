@@ -1,7 +1,7 @@
 -- A pair that is visited was reached by a rule that the expression asks, inside the input.
 use Rattle.std.proofs.Common.{◌≡◌, ℕ, zero, suc, ◌-◌, ◌≤◌, Bool, true, false, ltb, ◌⊎◌, List, [], ◌∷◌, ◌++◌, length, refl, inl, inr}
 use Rattle.reading.specs.Tree.{Tree, Asks}
-use Rattle.reading.specs.Tree.Tree.{empty, text, range, rule, sequence, choice, repeat, ahead, absent, node, link, fold, tag}
+use Rattle.reading.specs.Tree.Tree.{rule, sequence, choice, repeat, ahead, absent, node, link, fold}
 use Rattle.reading.specs.Reading.{Progress, Outcome, Answer, Work, left, made, after, back_to, onward, turns, take, work}
 use Rattle.reading.specs.Reading.Outcome.{deep, hit, miss}
 use Rattle.reading.specs.Reading.Answer.{too_deep, done}
@@ -26,8 +26,7 @@ in_either x (y ∷ xs) ys (inr h) = elim (in_either x xs ys h) [ inl i ↦ inl (
 -- an outcome that is not too deep, and an answer that is not
 abbrev pub Completes : Outcome → Type 0
 Completes deep = ⊥
-Completes (hit q t) = Unit {0}
-Completes (miss t) = Unit {0}
+Completes _ = Unit {0}
 
 abbrev pub Whole : Answer → Type 0
 Whole too_deep = ⊥
@@ -35,18 +34,15 @@ Whole (done d) = Unit {0}
 
 part_completes : (f : Work) (n : Progress → Outcome) (o : Outcome) → Completes (after f n o) → Completes o
 part_completes f n deep h = h
-part_completes f n (hit q t) h = tt
-part_completes f n (miss t) h = tt
+part_completes f n _ h = tt
 
 abbrev Ends : ℕ → Outcome → Type 0
-Ends n deep = Unit {0}
 Ends n (hit q t) = q ≤ n
-Ends n (miss t) = Unit {0}
+Ends n _ = Unit {0}
 
 ends : (n p : ℕ) (s : Progress) (o : Outcome) → Stayed n p s o → Ends n o
-ends n p s deep h = tt
 ends n p s (hit q t) h = h.ends
-ends n p s (miss t) h = tt
+ends n p s _ h = tt
 
 module _ (w : List ℕ) (ask : ℕ → ℕ → Answer) (c : ℕ → ℕ → List Pair) where
   -- the pair x was reached by one of the rules R, on the way to the outcome o
@@ -58,8 +54,8 @@ module _ (w : List ℕ) (ask : ℕ → ℕ → Answer) (c : ℕ → ℕ → List
     pub reaches : In x (c by position)
     pub whole : Completes o → Whole (ask by position)
 
-  from : (R R' : ℕ → Type 0) (o o' : Outcome) (x : Pair) → ((r : ℕ) → R r → R' r) → (Completes o' → Completes o) → From R o x → From R' o' x
-  from R R' o o' x i j F = record {
+  from : {R R' : ℕ → Type 0} {o o' : Outcome} {x : Pair} → From R o x → ((r : ℕ) → R r → R' r) → (Completes o' → Completes o) → From R' o' x
+  from F i j = record {
     by = F.by;
     position = F.position;
     asked = i F.by F.asked;
@@ -86,7 +82,7 @@ module _ (w : List ℕ) (ask : ℕ → ℕ → Answer) (c : ℕ → ℕ → List
         → (x : Pair) → In x (xs ++ visited_after v m o) → From R (after f n o) x
     both_from f n v m F N o e xs X x i =
         elim (in_either x xs (visited_after v m o) i) [
-          | inl j ↦ from R R o (after f n o) x (λ r a. a) (part_completes f n o) (X x j)
+          | inl j ↦ from (X x j) (λ r a. a) (part_completes f n o)
           | inr j ↦ after_from f n v m F N o e x j
         ]
 
@@ -107,38 +103,32 @@ module _ (w : List ℕ) (ask : ℕ → ℕ → Answer) (c : ℕ → ℕ → List
     work_ends t p s l = ends (length w) p s (work w ask t p s) (work_stays w ask A t p s l)
 
     rule_from : (r p : ℕ) (s : Progress) → p ≤ length w → (x : Pair) → In x (c r p) → From (λ q. q ≡ r) (take s (ask r p)) x
-    rule_from r p s l x i = record { by = r; position = p; asked = refl; inside = l; reaches = i; whole = λ h. answered (ask r p) h }
+    rule_from r p s l x i = record { by = r; position = p; asked = refl; inside = l; reaches = i; whole = answered (ask r p) }
       where
         answered : (y : Answer) → Completes (take s y) → Whole y
         answered too_deep h = h
         answered (done d) h = tt
 
     pub visited_from : (t : Tree) → Comes (λ r. Asks r t) (work w ask t) (visited w ask c t)
-    visited_from empty p s l x i = absurd i
-    visited_from (text cs) p s l x i = absurd i
-    visited_from (range low high) p s l x i = absurd i
     visited_from (rule r) p s l x i = rule_from r p s l x i
     visited_from (sequence a b) p s l x i =
         both_from (λ r. Asks r (sequence a b)) (work w ask b) miss (visited w ask c b) (λ t. [])
-        (λ q t m y j. from (λ r. Asks r b) (λ r. Asks r (sequence a b)) (work w ask b q t) (work w ask b q t) y (λ r h. inr h) (λ h. h) (visited_from b q t m y j))
+        (λ q t m y j. from (visited_from b q t m y j) (λ r h. inr h) (λ h. h))
         (λ t y j. absurd j) (work w ask a p s) (work_ends a p s l) (visited w ask c a p s)
-        (λ y j. from (λ r. Asks r a) (λ r. Asks r (sequence a b)) (work w ask a p s) (work w ask a p s) y (λ r h. inl h) (λ h. h) (visited_from a p s l y j)) x i
+        (λ y j. from (visited_from a p s l y j) (λ r h. inl h) (λ h. h)) x i
     visited_from (choice a b) p s l x i =
         both_from (λ r. Asks r (choice a b)) hit (back_to p s.nodes (work w ask b)) (λ q t. []) (visited_back_at p s.nodes (visited w ask c b))
         (λ q t m y j. absurd j)
-        (λ t y j. from (λ r. Asks r b) (λ r. Asks r (choice a b)) (work w ask b p (left s.nodes t)) (work w ask b p (left s.nodes t)) y
-        (λ r h. inr h) (λ h. h) (visited_from b p (left s.nodes t) l y j))
+        (λ t y j. from (visited_from b p (left s.nodes t) l y j) (λ r h. inr h) (λ h. h))
         (work w ask a p s) (work_ends a p s l) (visited w ask c a p s)
-        (λ y j. from (λ r. Asks r a) (λ r. Asks r (choice a b)) (work w ask a p s) (work w ask a p s) y (λ r h. inl h) (λ h. h) (visited_from a p s l y j)) x i
+        (λ y j. from (visited_from a p s l y j) (λ r h. inl h) (λ h. h)) x i
     visited_from (repeat a) p s l x i =
         turns_from (λ r. Asks r a) (suc (length w - p)) (work w ask a) (visited w ask c a) (work_ends a) (visited_from a) p s l x i
     visited_from (ahead a) p s l x i =
-        from (λ r. Asks r a) (λ r. Asks r a) (work w ask a p s) (work w ask (ahead a) p s) x (λ r h. h)
-        (part_completes (λ q. back_to p s.nodes hit) miss (work w ask a p s)) (visited_from a p s l x i)
+        from (visited_from a p s l x i) (λ r h. h) (part_completes (λ q. back_to p s.nodes hit) miss (work w ask a p s))
     visited_from (absent a) p s l x i =
-        from (λ r. Asks r a) (λ r. Asks r a) (work w ask a p s) (work w ask (absent a) p s) x (λ r h. h)
-        (part_completes (λ q. miss) (back_to p s.nodes hit) (work w ask a p s)) (visited_from a p s l x i)
+        from (visited_from a p s l x i) (λ r h. h) (part_completes (λ q. miss) (back_to p s.nodes hit) (work w ask a p s))
     visited_from (node a) p s l x i = visited_from a p (made s) l x i
     visited_from (link a) p s l x i = visited_from a p s l x i
     visited_from (fold a) p s l x i = visited_from a p (made s) l x i
-    visited_from (tag n) p s l x i = absurd i
+    visited_from _ p s l x i = absurd i
