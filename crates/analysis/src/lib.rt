@@ -49,7 +49,7 @@ impl<'a> Analysis<'a> {
     fn mark_by<F>(&self, heap: Global, test: F) -> Result<Vec<bool>, AllocError>
     where
         F: Fn(usize) -> Result<bool, AllocError>,
-        requires { (rule : ℕ) → rule < length self.now.rules.bodies.now → F.pre test rule }
+        requires { F.IsAlwaysCallable test }
         ensures long { IfOk result (λ v. length v.items ≡ length self.now.rules.bodies.now) }
         ensures each { IfOk result (λ v. (rule : ℕ) → rule < length self.now.rules.bodies.now → F.post test rule (Ok (marked v.items rule))) }
     {
@@ -67,7 +67,6 @@ impl<'a> Analysis<'a> {
 
     // Whether a rule is a head of a record.
     fn is_head(&self, heap: Global, number: usize, rule: usize) -> Result<bool, AllocError>
-        requires { rule < length self.now.rules.bodies.now }
         ensures { IfOk result (λ b. b ≡ is_head self.now.rules.exprs.now self.now.rules.bodies.now number rule) }
     {
         let marks = mark_only(heap, self.rules.bodies.len(), rule)?;
@@ -97,7 +96,6 @@ impl<'a> Analysis<'a> {
     // Whether a rule can come back to itself with no byte taken. Beside `is_head` this settles the marks: one function of both, by a
     // number of rounds, is no plainer.
     fn is_left_recursive(&self, heap: Global, rule: usize) -> Result<bool, AllocError>
-        requires { rule < length self.now.rules.bodies.now }
         ensures { IfOk result (λ b. b ≡ left_recursive self.now.rules.exprs.now self.now.rules.bodies.now rule) }
     {
         let marks = mark_only(heap, self.rules.bodies.len(), rule)?;

@@ -51,12 +51,13 @@ pub(crate) fn settle<Q: Question>(
     answer_all(heap, question, rules.exprs, &marks)
 }
 
-// The marks of one rule alone, among so many.
+// The marks of one rule alone, among so many; past the end there is none to mark.
 pub(crate) fn mark_only(heap: Global, len: usize, rule: usize) -> Result<Vec<bool>, AllocError>
-    requires { rule < len }
     ensures { IfOk result (λ v. v.items ≡ only len rule) }
 {
     let mut marks = vec![in heap; false; len]?;
-    marks[rule] = true;
+    if let Some(mark) = marks.get_mut(rule) {
+        *mark = true;
+    }
     Ok(marks)
 }
