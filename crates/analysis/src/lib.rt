@@ -27,7 +27,7 @@ fn repeats_marked(x: Expr, table: &[bool]) -> bool
 #[derive(Drop)]
 pub struct Analysis<'a> {
     pub rules: Rules<'a>,
-    // by record number
+    // by record number; a list beside the records, since these are lent
     pub nullable: Vec<bool>,
     ghost is_nullable: { nullable.items ≡ nullables rules.exprs.now rules.bodies.now },
 }

@@ -1,7 +1,6 @@
 use analysis::Analysis;
 use grammar::grammar::Grammar;
 use nesting::nestings;
-use std::alloc::Global;
 use std::fmt;
 
 // The numbers that are marked, each behind a space, or `none`.
@@ -23,9 +22,12 @@ impl fmt::Display for Marked<'_> {
 }
 
 // Each rule: its body, how deep that is nested, whether it may take nothing, and the rules it can ask first.
-pub(crate) fn print_rules(rt: &impl Print, heap: Global, grammar: &Grammar) -> anyhow::Result<()> {
-    let analysis = Analysis::new(heap, grammar.rules())?;
-    let nestings = nestings(heap, &grammar.exprs)?;
+pub(crate) fn print_rules(
+    rt: &(impl Print + AllocGlobal),
+    grammar: &Grammar,
+) -> anyhow::Result<()> {
+    let analysis = Analysis::new(rt.alloc(), grammar.rules())?;
+    let nestings = nestings(rt.alloc(), &grammar.exprs)?;
     for (number, body) in grammar.rules.iter().enumerate() {
         let body = usize::from(*body);
         let nesting = nestings.get(body).copied().unwrap_or(0);
@@ -34,7 +36,7 @@ pub(crate) fn print_rules(rt: &impl Print, heap: Global, grammar: &Grammar) -> a
         } else {
             "takes a byte"
         };
-        let heads = analysis.heads(heap, body)?;
+        let heads = analysis.heads(rt.alloc(), body)?;
         println!(rt;
             "rule {number}: record {body}, nesting {nesting}, {taken}, heads{}",
             Marked(&heads)

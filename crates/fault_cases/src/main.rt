@@ -54,7 +54,8 @@ fn read_file(heap: Global, runs: &str) -> Result<Vec<u8>, AllocError> {
     Ok(out)
 }
 
-// What is told of a file that was checked: that it is accepted, or where the grammar at its front ends, or its fault.
+// What is told of a file that was checked: that it is accepted, or where the grammar at its front ends, or its fault. It is no
+// `Display`, since want of memory is passed on and not printed.
 fn told(heap: Global, checked: Result<Option<usize>, CheckError>) -> anyhow::Result<String> {
     let text = match checked {
         Ok(None) => String::from_str(heap, "accepted")?,
@@ -66,7 +67,8 @@ fn told(heap: Global, checked: Result<Option<usize>, CheckError>) -> anyhow::Res
 }
 
 // One line of the table: prints the case and what the check tells of it, and says whether that was expected.
-fn run_case(rt: &impl Print, heap: Global, line: &str) -> anyhow::Result<bool> {
+fn run_case(rt: &(impl Print + AllocGlobal), line: &str) -> anyhow::Result<bool> {
+    let heap = rt.alloc();
     let Some((expected, rest)) = line.split_once(" | ") else {
         return Err(anyhow!("a line with no name"));
     };
@@ -86,23 +88,18 @@ fn run_case(rt: &impl Print, heap: Global, line: &str) -> anyhow::Result<bool> {
     Ok(right)
 }
 
-fn run(rt: &HostRuntime) -> anyhow::Result<()> {
-    let heap = rt.alloc();
+fn main(rt: HostRuntime) -> anyhow::Result<()> {
     let mut cases = 0u32;
     let mut right = 0u32;
-    for line in rt.lines(heap) {
+    for line in rt.lines(rt.alloc()) {
         let line = line?;
         if !line.as_str().starts_with('#') {
             cases = cases.saturating_add(1);
-            if run_case(rt, heap, line.as_str())? {
+            if run_case(&rt, line.as_str())? {
                 right = right.saturating_add(1);
             }
         }
     }
     println!(rt; "{right} of {cases} cases as expected")?;
     Ok(())
-}
-
-fn main(rt: HostRuntime) -> anyhow::Result<()> {
-    run(&rt)
 }

@@ -9,7 +9,7 @@ use std::fmt;
 pub enum Expr {
     // matches where it is
     Empty,
-    // the `length` bytes from `start` on in the grammar's text
+    // the `length` bytes from `start` on in the grammar's text, as the file has them, by the same rule
     Text { start: u16, length: u8 },
     // one byte from `low` to `high`
     Range { low: u8, high: u8 },

@@ -35,7 +35,8 @@ pub enum Section {
     Rules,
 }
 
-// A fault: its kind, its section, and the lowest record or rule at fault there; 0 where the fault is of no record or rule.
+// A fault: its kind, its section, and the lowest record or rule at fault there; 0 where the fault is of no record or rule. That it
+// is 0 then, and no Option, is a rule of the project.
 #[derive(Clone, Copy, Debug, PartialEq, Eq)]
 pub struct Fault {
     pub kind: FaultKind,

@@ -37,8 +37,8 @@ impl From<AllocError> for CheckError {
     }
 }
 
-// What `?` makes of a value that found no room. One impl for whatever turns into an `AllocError` would be in conflict with that
-// for `Fault`.
+// What `?` makes of a value that found no room. One impl for whatever turns into an `AllocError` was tried: it is refused, as in
+// conflict with that for `Fault`.
 impl<T: Drop> From<AllocFailed<T>> for CheckError {
     ghost from_gives = { λ _ r. r ≡ OutOfMemory };
 

@@ -45,7 +45,8 @@ fn nest(exprs: &[Expr], number: usize, table: &mut [usize])
     }
 }
 
-// By record number, how deep each record is nested: one more than its deepest part.
+// By record number, how deep each record is nested: one more than its deepest part. A list beside the records, since these are
+// lent: to copy them into one list with the numbers is no plainer.
 pub fn nestings(heap: Global, exprs: &[Expr]) -> Result<Vec<usize>, AllocError>
     ensures is { IfOk result (λ v. v.items ≡ nestings exprs.now) }
     ensures tells { IfOk result (λ v. TellsNesting exprs.now v.items) }
@@ -56,7 +57,8 @@ pub fn nestings(heap: Global, exprs: &[Expr]) -> Result<Vec<usize>, AllocError>
     Ok(table)
 }
 
-// The first record that is nested more than 32 deep.
+// The first record that is nested more than 32 deep. That it is one of the records is a clause of each such look: a type for a
+// number below a list's length is no plainer.
 pub fn first_too_deep(heap: Global, exprs: &[Expr]) -> Result<Option<usize>, AllocError>
     ensures is { IfOk result (λ o. o ≡ first_too_deep exprs.now) }
     ensures within { IfOk result (λ o. IfSome o (λ k. k < length exprs.now)) }
