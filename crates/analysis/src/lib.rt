@@ -40,20 +40,10 @@ impl<'a> Analysis<'a> {
         ensures is { IfOk result (λ a. a.nullable.items ≡ nullables rules.entry.exprs.now rules.entry.bodies.now) }
         ensures tells { IfOk result (λ a. MarksNullable rules.entry.exprs.now rules.entry.bodies.now a.nullable.items) }
     {
-        let marks = vec![in heap; false; rules.bodies.len()]?;
-        let nullable = settle(heap, &TakesNothing, &rules, marks)?;
+        let mut marks = vec![in heap; false; rules.bodies.len()]?;
+        let mut nullable = vec![in heap; false; rules.exprs.len()]?;
+        settle(&TakesNothing, &rules, &mut marks, &mut nullable);
         Ok(Analysis { rules, nullable })
-    }
-
-    // By rule number, what a test answers of each rule.
-    fn mark_by<F>(&self, heap: Global, test: F) -> Result<Vec<bool>, AllocError>
-    where
-        F: Fn(usize) -> Result<bool, AllocError>,
-        requires { F.IsAlwaysCallable test }
-        ensures long { IfOk result (λ v. length v.items ≡ length self.now.rules.bodies.now) }
-        ensures each { IfOk result (λ v. (rule : ℕ) → rule < length self.now.rules.bodies.now → F.post test rule (Ok (marked v.items rule))) }
-    {
-        (0..self.rules.bodies.len()).map(test).try_collect(heap)
     }
 
     // The question which records have a marked rule as a head.
@@ -65,13 +55,15 @@ impl<'a> Analysis<'a> {
         }
     }
 
-    // Whether a rule is a head of a record.
-    fn is_head(&self, heap: Global, number: usize, rule: usize) -> Result<bool, AllocError>
-        ensures { IfOk result (λ b. b ≡ is_head self.now.rules.exprs.now self.now.rules.bodies.now number rule) }
+    // Whether a rule is a head of a record; the marks and the table are for its own use.
+    fn is_head(&self, number: usize, rule: usize, marks: &mut [bool], table: &mut [bool]) -> bool
+        requires marks { length marks.old ≡ length self.now.rules.bodies.now }
+        requires table { length table.old ≡ length self.now.rules.exprs.now }
+        ensures { result ≡ is_head self.now.rules.exprs.now self.now.rules.bodies.now number rule }
     {
-        let marks = mark_only(heap, self.rules.bodies.len(), rule)?;
-        let table = answer_all(heap, &self.has_head(), self.rules.exprs, &marks)?;
-        Ok(is_marked(&table, number))
+        mark_only(marks, rule);
+        answer_all(&self.has_head(), self.rules.exprs, marks, table);
+        is_marked(table, number)
     }
 
     // By rule number, which rules are heads of a record; a number past the records has none.
@@ -79,7 +71,13 @@ impl<'a> Analysis<'a> {
         ensures is { IfOk result (λ v. HeadMarks self.now.rules.exprs.now self.now.rules.bodies.now number v.items) }
         ensures tells { IfOk result (λ v. MarksHeads self.now.rules.exprs.now self.now.rules.bodies.now number v.items) }
     {
-        self.mark_by(heap, |rule| self.is_head(heap, number, rule))
+        let mut marks = vec![in heap; false; self.rules.bodies.len()]?;
+        let mut table = vec![in heap; false; self.rules.exprs.len()]?;
+        let mut heads = vec![in heap; false; self.rules.bodies.len()]?;
+        for (rule, head) in heads.iter_mut().enumerate() {
+            *head = self.is_head(number, rule, &mut marks, &mut table);
+        }
+        Ok(heads)
     }
 
     // The first repeat of what may take nothing.
@@ -93,23 +91,32 @@ impl<'a> Analysis<'a> {
             .position(|&x| repeats_marked(x, &self.nullable))
     }
 
-    // Whether a rule can come back to itself with no byte taken. Beside `is_head` this settles the marks: one function of both, by a
-    // number of rounds, is no plainer.
-    fn is_left_recursive(&self, heap: Global, rule: usize) -> Result<bool, AllocError>
-        ensures { IfOk result (λ b. b ≡ left_recursive self.now.rules.exprs.now self.now.rules.bodies.now rule) }
+    // Whether a rule can come back to itself with no byte taken; the marks and the table are for its own use. Beside `is_head` this
+    // settles the marks: one function of both, by a number of rounds, is no plainer.
+    fn is_left_recursive(&self, rule: usize, marks: &mut [bool], table: &mut [bool]) -> bool
+        requires marks { length marks.old ≡ length self.now.rules.bodies.now }
+        requires table { length table.old ≡ length self.now.rules.exprs.now }
+        ensures { result ≡ left_recursive self.now.rules.exprs.now self.now.rules.bodies.now rule }
     {
-        let marks = mark_only(heap, self.rules.bodies.len(), rule)?;
-        let table = settle(heap, &self.has_head(), &self.rules, marks)?;
-        Ok(is_marked(&table, self.rules.body(rule)))
+        mark_only(marks, rule);
+        settle(&self.has_head(), &self.rules, marks, table);
+        is_marked(table, self.rules.body(rule))
     }
 
-    // The first rule that can come back to itself with no byte taken.
+    // The first rule that can come back to itself with no byte taken. No rule behind it is asked. A loop and no `position` over the
+    // rules' numbers: its closure would write into the lent tables, and with that the proof did not close.
     pub fn first_left_recursive(&self, heap: Global) -> Result<Option<usize>, AllocError>
         ensures is { IfOk result (λ o. o ≡ first_left_recursive self.now.rules.exprs.now self.now.rules.bodies.now) }
         ensures within { IfOk result (λ o. IfSome o (λ r. r < length self.now.rules.bodies.now)) }
     {
-        let marks = self.mark_by(heap, |rule| self.is_left_recursive(heap, rule))?;
-        Ok(marks.iter().position(|&recursive| recursive))
+        let mut marks = vec![in heap; false; self.rules.bodies.len()]?;
+        let mut table = vec![in heap; false; self.rules.exprs.len()]?;
+        for rule in 0..self.rules.bodies.len() {
+            if self.is_left_recursive(rule, &mut marks, &mut table) {
+                return Ok(Some(rule));
+            }
+        }
+        Ok(None)
     }
 }
 

@@ -36,11 +36,10 @@ pub(crate) fn print_rules(
         } else {
             "takes a byte"
         };
+        // Before the heads are looked for: where there is no memory for those, what is known of the rule is printed all the same.
+        print!(rt; "rule {number}: record {body}, nesting {nesting}, {taken}, heads")?;
         let heads = analysis.heads(rt.alloc(), body)?;
-        println!(rt;
-            "rule {number}: record {body}, nesting {nesting}, {taken}, heads{}",
-            Marked(&heads)
-        )?;
+        println!(rt; "{}", Marked(&heads))?;
     }
     Ok(())
 }

@@ -55,13 +55,13 @@ fn read_file(heap: Global, runs: &str) -> Result<Vec<u8>, AllocError> {
 }
 
 // What is told of a file that was checked: that it is accepted, or where the grammar at its front ends, or its fault. It is no
-// `Display`, since want of memory is passed on and not printed.
+// `Display`, since want of memory is passed on, as the allocation's own error, and not printed.
 fn told(heap: Global, checked: Result<Option<usize>, CheckError>) -> anyhow::Result<String> {
     let text = match checked {
         Ok(None) => String::from_str(heap, "accepted")?,
         Ok(Some(end)) => format!(in heap; "ends at {end}")?,
         Err(CheckError::Faulty(fault)) => format!(in heap; "{fault}")?,
-        Err(error) => return Err(error.into()),
+        Err(CheckError::OutOfMemory) => return Err(AllocError.into()),
     };
     Ok(text)
 }

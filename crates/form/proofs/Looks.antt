@@ -1,5 +1,5 @@
 -- A look through a list for the first entry that passes a test is a look through its numbers.
-use Rattle.std.proofs.Common.{◌≡◌, ℕ, suc, ◌+◌, ◌<◌, Bool, cond, List, [], ◌∷◌, length, get_or, Some, ltb, sym, refl, ◌∙◌, ap, ap₂, arith, position}
+use Rattle.std.proofs.Common.{◌≡◌, ℕ, suc, ◌+◌, ◌-◌, ◌<◌, Bool, false, cond, List, [], ◌∷◌, length, get_or, Some, Option, ltb, sym, refl, ◌∙◌, ap, ap₂, arith, position}
 use Rattle.std.specs.List.{position_from}
 use Rattle.std.proofs.lemmas.Iterator.Adapters.{position_from-zero}
 use Rattle.form.specs.Tables.{first_from, nestings, nullables, repeats_marked}
@@ -31,3 +31,10 @@ deep_position es = first_is_position 0 (λ n. ltb 32 n) (λ k. ltb 32 (get_or (n
 pub repeat_position : (es : List Expr) (rs : List ℕ) → first_nullable_repeat es rs ≡ position (repeats_marked (nullables es rs)) es
 repeat_position es rs =
     first_is_position (Range 0 0) (repeats_marked (nullables es rs)) (λ k. repeats_marked (nullables es rs) (at es k)) (length es) es refl (λ k l. refl)
+
+-- one turn of such a look, where the test does not hold
+pub first_later : (f : ℕ → Bool) (k m : ℕ) (o : Option ℕ) → k < m → false ≡ f k → first_from f k (m - k) ≡ o
+    → first_from f (k + 1) (m - (k + 1)) ≡ o
+first_later f k m o lt gone look =
+    let one : m - k ≡ suc (m - (k + 1)) = omega arith in
+    rw (one, ← gone) at look

@@ -65,6 +65,7 @@ impl Grammar {
     {
         let layout = split(bytes)?;
         let grammar = read_contents(heap, &layout)?;
-        Ok((grammar, bytes.len() - layout.rules.after.len()))
+        let end = bytes.len() - layout.rules.after.len();
+        Ok((grammar, end))
     }
 }

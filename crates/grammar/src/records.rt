@@ -75,8 +75,13 @@ impl Record {
     fn range(self) -> Result<Expr, Fault>
         ensures { result ≡ range_record self.number self.first self.second }
     {
-        match (u8::try_from(self.first), u8::try_from(self.second)) {
-            (Ok(low), Ok(high)) if low <= high => Ok(Expr::Range { low, high }),
+        let low = self.first;
+        match u8::try_from(self.second) {
+            // The cast is proved to lose nothing: a second `try_from` would cost more than the rest of the record.
+            Ok(high) if low <= u16::from(high) => Ok(Expr::Range {
+                low: low as u8,
+                high,
+            }),
             _ => Err(self.fault(FaultKind::FieldOutOfRange)),
         }
     }
