@@ -52,7 +52,7 @@ pub(crate) fn settle<Q: Question>(
     answer_all(question, rules.exprs, marks, table);
 }
 
-// Marks one rule alone; past the end there is none to mark.
+// Marks one rule alone; past the end there is none to mark. An index behind a test: with `get_mut` behind `fill` two goals stayed open.
 pub(crate) fn mark_only(marks: &mut [bool], rule: usize)
     ensures { marks.new ≡ only (length marks.old) rule }
 {
