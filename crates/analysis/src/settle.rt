@@ -7,7 +7,7 @@ use form::expr::Expr;
 use form::rules::Rules;
 
 // The answer for every record, from the last to the first, in a table that is filled anew. The table is lent: one serves all rounds
-// of all rules, since a table made for each would cost more than the answers of a small grammar do.
+// of all rules, since to make one for each takes time, most where grammars are small, and may fail.
 pub(crate) fn answer_all<Q: Question>(
     question: &Q,
     exprs: &[Expr],
